@@ -1,0 +1,20 @@
+use std::fmt;
+
+/// Why a line is no statement, with the word that is at fault.
+#[derive(Clone, Copy, Drop)]
+pub enum Complaint<'a> {
+    Unknown(&'a str),
+    NotHex(&'a str),
+    /// The word, and the largest number that may stand there.
+    TooLarge(&'a str, u128),
+}
+
+pub impl fmt::Display for Complaint<'_> as ComplaintDisplay {
+    fn fmt<W: fmt::Write>(&self, f: &mut fmt::Formatter<W>) -> fmt::Result {
+        match self {
+            Complaint::Unknown(word) => write!(f, "no statement begins with '{word}'"),
+            Complaint::NotHex(word) => write!(f, "'{word}' is not a number in hex"),
+            Complaint::TooLarge(word, most) => write!(f, "'{word}' is above {most:x}"),
+        }
+    }
+}

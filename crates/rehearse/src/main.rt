@@ -1,0 +1,43 @@
+// Plays a scenario from standard input, one statement a line, and prints every answer.
+mod answer;
+mod complaint;
+mod number;
+mod statement;
+
+use answer::tell_report;
+use complaint::ComplaintDisplay;
+use statement::Statement;
+use std::error::AnyError;
+use std::io;
+use std::io::BufRead;
+use std::io::BufReader;
+
+fn main(rt: LibcRuntime) -> Result<(), AnyError> {
+    rt.report(play(&rt))
+}
+
+fn play(rt: &LibcRuntime) -> Result<(), AnyError> {
+    let heap = rt.alloc();
+    let mut number: u64 = 0;
+    for line in BufReader::new(rt.stdin()).lines(heap) {
+        number = number.saturating_add(1);
+        match line {
+            Ok(text) => play_line(rt, number, text.as_str())?,
+            Err(error) => {
+                if error.kind() != io::ErrorKind::InvalidData {
+                    return Err(error.into());
+                }
+                println!(rt, "line {number}: not text in UTF-8")?;
+            }
+        }
+    }
+    Ok(())
+}
+
+fn play_line(rt: &LibcRuntime, number: u64, line: &str) -> io::Result<()> {
+    match Statement::parse(rt.alloc(), line)? {
+        Ok(Statement::Nothing) => Ok(()),
+        Ok(Statement::Report(words)) => tell_report(rt, words.as_slice()),
+        Err(complaint) => println!(rt, "line {number}: {complaint}"),
+    }
+}
