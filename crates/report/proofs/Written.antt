@@ -1,21 +1,18 @@
 -- The words that the writer puts together. Assumes nothing.
 use mathlib.Core.Path.{_≡_, refl, sym, ap, _∙_}
-use mathlib.Core.Bool.{true, false, cond, _&&_}
+use mathlib.Core.Bool.{true, cond, _&&_}
 use mathlib.Core.List.{List, [], _∷_, _++_, map}
-use Prim.Native.Nat.{ℕ, zero, suc, _+_, _*_, _≤_, _<_}
+use Prim.Native.Nat.{ℕ, zero, suc, _+_, _*_, _≤_}
 use native.Mathlib.Omega.{arith}
 use lib.Dec.{eqb, leb}
-use lib.ListN.{length, take, drop}
+use lib.ListN.{length, take}
 use lib.Seq.{take-append-add}
 use Rattle.std.proofs.shelf.Lists.{length-append, length-map, length-take}
-use Rattle.std.proofs.shelf.Tests.{and-parts, and-from, and-right, ne-eqb, leb-true, le-leb, lt-leb}
-use Rattle.std.specs.declared.result.Result.the-variants.{Ok, Err}
+use Rattle.std.proofs.shelf.Tests.{and-parts, ne-eqb, leb-true}
 use Rattle.report.specs.declared.Report as code
 use Rattle.report.specs.Masks.{is-mask}
 use Rattle.report.specs.Reports.{means, filled, in-range, is-report}
 use Rattle.report.specs.Layout.{word, mac-words, uuid-words, words}
-use Rattle.report.specs.Refusals.{short, field}
-use Rattle.report.specs.Writing.{written, write-answer, write-leaves}
 
 -- the word at a place that may hold a mask
 abbrev pub word-of-mask : ℕ → ℕ
@@ -63,36 +60,15 @@ module _ (r : code.Report) (ok : in-range r ≡ true) (four : length (r .masks) 
   -- the words before the masks, the four places for masks, and a zero
   pub words-so :
       (head : ℕ) → head ≡ word 1 (r .position * 16 + r .nodes)
-      → take (13 + r .nodes)
+      → take (length (words (means r)))
       (head ∷ (mac-words (r .mac .0) ++ (mac-words (r .side1 .0) ++ (mac-words (r .side2 .0) ++ (uuid-words (means r .uuid) ++ (map word-of-mask (r .masks) ++ 0 ∷ []))))))
       ≡ words (means r)
   words-so head is-head =
       let rest = map word-of-mask (r .masks) ++ 0 ∷ [] in
       let front : List ℕ = head ∷ (mac-words (r .mac .0) ++ (mac-words (r .side1 .0) ++ (mac-words (r .side2 .0) ++ uuid-words (means r .uuid)))) in
-      let n : 13 + r .nodes ≡ 12 + suc (r .nodes) = omega arith in
+      let n : length (words (means r)) ≡ 12 + suc (r .nodes) = omega (arith, length-words) in
       let few = ranges r ok .few in
       let h : head ≡ word 1 (16 * r .position + length (take (r .nodes) (r .masks))) = is-head ∙ omega (arith, counted) in
       let tail = masks-end (r .nodes) (r .masks) (omega arith) (ranges r ok .full) in
       ap (λ k. take k (front ++ rest)) n ∙ take-append-add front rest (suc (r .nodes))
       ∙ (λ i. h i ∷ (mac-words (r .mac .0) ++ (mac-words (r .side1 .0) ++ (mac-words (r .side2 .0) ++ (uuid-words (means r .uuid) ++ tail i)))))
-
-  -- what the writer answers and leaves, where every value is in its range
-  module _ (out : List ℕ) where
-    pub too-short : length out < 13 + r .nodes → (Err short ≡ write-answer r (length out)) × (out ≡ write-leaves r out)
-    too-short h =
-        let n = length (words (means r)) in
-        let test : leb n (length out) ≡ false = lt-leb n (length out) (omega (arith, length-words)) in (
-          sym (ap (λ b. cond b (cond (leb n (length out)) (Ok n) (Err short)) (Err field)) ok ∙ ap (λ b. cond b (Ok n) (Err short)) test),
-          sym (ap (λ b. cond b (written (words (means r)) out) out) (and-right (in-range r) (leb n (length out)) test)),
-        )
-
-    pub long-enough :
-        13 + r .nodes ≤ length out
-        → (Ok (13 + r .nodes) ≡ write-answer r (length out)) × (words (means r) ++ drop (13 + r .nodes) out ≡ write-leaves r out)
-    long-enough h =
-        let n = length (words (means r)) in
-        let test : leb n (length out) ≡ true = le-leb n (length out) (omega (arith, length-words)) in (
-          sym (ap (λ b. cond b (cond (leb n (length out)) (Ok n) (Err short)) (Err field)) ok ∙ ap (λ b. cond b (Ok n) (Err short)) test ∙ ap Ok length-words),
-          ap (λ k. words (means r) ++ drop k out) (sym length-words)
-              ∙ sym (ap (λ b. cond b (written (words (means r)) out) out) (and-from (in-range r) (leb n (length out)) ok test)),
-        )

@@ -1,3 +1,5 @@
+//! Why words are refused, and why a report is not written.
+
 ghost use mathlib.Core.Path.{_≡_};
 ghost use mathlib.Core.List.{[], _∷_};
 ghost use Rattle.report.specs.Refusals.{word-refusal};

@@ -1,4 +1,5 @@
-// Where a row of words holds what; the head is word 0, and the end word stands behind the masks.
+//! Where a row of words holds what; the head is word 0, and the end word stands behind the masks.
+
 pub(crate) const OWN: usize = 1;
 
 pub(crate) const SIDE1: usize = 3;

@@ -1,4 +1,5 @@
-// What a backbone node reports of itself, its neighbours and its consist, and the words that carry it.
+//! What a backbone node reports of itself, its neighbours and its consist, and the words that carry it.
+
 mod fault;
 mod layout;
 mod range;

@@ -1,4 +1,5 @@
-// The ranges of a report's values.
+//! The ranges of a report's values.
+
 ghost use mathlib.Core.Path.{_≡_};
 ghost use Rattle.report.specs.Masks.{gapless};
 ghost use Rattle.report.specs.Reports.{whole, means, is-mac, is-neighbour, is-uuid, macs-fit, filled, in-range};

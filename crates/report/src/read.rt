@@ -1,12 +1,14 @@
-// A report out of a row of words.
+//! A report out of a row of words.
+
 ghost use mathlib.Core.Bool.{true};
 ghost use mathlib.Core.Path.{_≡_};
 ghost use Prim.Native.Nat.{_+_, _≤_, _<_, _%_, _^_};
 ghost use lib.ListN.{getD, length};
-ghost use Rattle.std.specs.Vec.{made};
-ghost use Rattle.report.specs.Reports.{whole, in-range};
+ghost use Rattle.std.specs.Vec.{made, refused};
+ghost use Rattle.std.specs.declared.option.Option.the-variants.{Some, None};
+ghost use Rattle.report.specs.Reports.{whole, means, in-range};
 ghost use Rattle.report.specs.Refusals.{read-told};
-ghost use Rattle.report.specs.Reading.{nodes-in, position-in, mac-in, uuid-in, masks-in, padded, of, head, mask-word, end-word, test-at, asked, first-wrong, read};
+ghost use Rattle.report.specs.Reading.{nodes-in, position-in, mac-in, uuid-in, masks-in, padded, of, head, mask-word, end-word, test-at, asked, first-wrong, report-in, read};
 ghost use Rattle.report.specs.Lossless.{Lossless};
 use crate::Mac;
 use crate::Report;
@@ -147,7 +149,8 @@ fn is_right(words: &[u32], place: usize) -> bool
 
 /// The first word that is missing, wrong or behind the last.
 fn first_wrong(words: &[u32]) -> Option<WordFault>
-    ensures { λ r. ⌜ r ≡ first-wrong 0 (asked (now (words .entry))) (now (words .entry)) ⌝ }
+    ensures fault { λ r. ⌜ r ≡ first-wrong 0 (asked (now (words .entry))) (now (words .entry)) ⌝ }
+    ensures lossless { λ _. ⌜ Lossless ⌝ }
 {
     let count = MASKS + usize::from(nodes_in(words)) + 1;
     for place in 0..count {
@@ -165,24 +168,34 @@ fn first_wrong(words: &[u32]) -> Option<WordFault>
     }
 }
 
+/// The values of a row in which no word is wrong.
+fn report_in(words: &[u32]) -> Report
+    requires { ⌜ first-wrong 0 (asked (now words)) (now words) ≡ None ⌝ }
+    ensures value { λ r. ⌜ means r ≡ report-in (now (words .entry)) ⌝ }
+    ensures ranges { λ r. ⌜ in-range r ≡ true ⌝ }
+{
+    Report {
+        mac: mac_in(words, OWN),
+        side1: mac_in(words, SIDE1),
+        side2: mac_in(words, SIDE2),
+        uuid: uuid_in(words),
+        position: position_in(words),
+        nodes: nodes_in(words),
+        masks: masks_in(words),
+    }
+}
+
 impl Report {
     /// The report in a row of words, or the place of the first wrong word.
     pub fn read(words: &[u32]) -> Result<Report, WordFault>
         ensures answer { λ r. ⌜ read-told r ≡ read (now (words .entry)) ⌝ }
+        ensures fault { λ r. ⌜ refused r (λ f. first-wrong 0 (asked (now (words .entry))) (now (words .entry)) ≡ Some f) ⌝ }
         ensures ranges { λ r. ⌜ made r (λ report. in-range report ≡ true) ⌝ }
         ensures lossless { λ _. ⌜ Lossless ⌝ }
     {
-        if let Some(fault) = first_wrong(words) {
-            return Err(fault);
+        match first_wrong(words) {
+            Some(fault) => Err(fault),
+            None => Ok(report_in(words)),
         }
-        Ok(Report {
-            mac: mac_in(words, OWN),
-            side1: mac_in(words, SIDE1),
-            side2: mac_in(words, SIDE2),
-            uuid: uuid_in(words),
-            position: position_in(words),
-            nodes: nodes_in(words),
-            masks: masks_in(words),
-        })
     }
 }

@@ -1,14 +1,15 @@
-// A report into a row of words.
+//! A report into a row of words.
+
 ghost use mathlib.Core.Bool.{true, cond};
 ghost use mathlib.Core.List.{_++_};
 ghost use mathlib.Core.Path.{_≡_};
-ghost use Prim.Native.Nat.{_+_, _<_, _^_};
+ghost use Prim.Native.Nat.{_<_, _≤_, _^_};
 ghost use lib.Dec.{eqb};
 ghost use lib.ListN.{length, take};
 ghost use Rattle.report.specs.Reports.{means, whole, is-neighbour, in-range};
 ghost use Rattle.report.specs.Refusals.{write-told};
 ghost use Rattle.report.specs.Layout.{word as word-of, mac-words, uuid-words, words};
-ghost use Rattle.report.specs.Writing.{write-answer, write-leaves};
+ghost use Rattle.report.specs.Writing.{written, write-answer, write-leaves};
 use crate::Mac;
 use crate::Report;
 use crate::Uuid;
@@ -55,11 +56,28 @@ fn mask_word(mask: u8) -> u32
     }
 }
 
+/// Writes the first words at the front of a buffer; what lies behind stays.
+fn put(words: &[u32], count: usize, out: &mut [u32])
+    requires { ⌜ count ≤ length (now words) ⌝ ∗ ⌜ count ≤ length (now out) ⌝ }
+    ensures { λ _. ⌜ now (out .exit) ≡ written (take count (now (words .entry))) (now (out .entry)) ⌝ }
+{
+    out[0..count].copy_from_slice(&words[0..count]);
+}
+
 impl Report {
+    /// How many words it has.
+    fn count(&self) -> usize
+        requires { ⌜ in-range (now self) ≡ true ⌝ }
+        ensures words { λ r. ⌜ r ≡ length (words (means (now (self .entry)))) ⌝ }
+        ensures most { λ r. ⌜ r ≤ 17 ⌝ }
+    {
+        MASKS + usize::from(self.nodes) + 1
+    }
+
     /// Its words, and zeros behind them.
     fn words(&self) -> [u32; 17]
         requires { ⌜ in-range (now self) ≡ true ⌝ }
-        ensures { λ r. ⌜ take (13 + now (self .entry) .nodes) r ≡ words (means (now (self .entry))) ⌝ }
+        ensures { λ r. ⌜ take (length (words (means (now (self .entry))))) r ≡ words (means (now (self .entry))) ⌝ }
     {
         let head = word(1, u64::from(self.position) * 16 + u64::from(self.nodes));
         let [own_high, own_low] = mac_words(self.mac);
@@ -96,12 +114,12 @@ impl Report {
         if !self.is_in_range() {
             return Err(WriteFault::Field);
         }
-        let count = MASKS + usize::from(self.nodes) + 1;
+        let count = self.count();
         if out.len() < count {
             return Err(WriteFault::Short);
         }
         let words = self.words();
-        out[0..count].copy_from_slice(&words[0..count]);
+        put(&words, count, out);
         Ok(count)
     }
 }

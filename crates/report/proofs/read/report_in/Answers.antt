@@ -10,16 +10,13 @@ use Rattle.report.specs.declared.Report as code
 use Rattle.report.specs.Reports.{Report, means, filled, is-report}
 use Rattle.report.specs.Reading.{nodes-in, masks-in, padded, report-in, answer}
 use Rattle.report.proofs.Masks.{few-masks, take-padded, filled-padded}
-use Rattle.report.proofs.Lossless.{lossless, read-is-written, masks-counted}
-use Rattle.report.proofs.Report.read.Needs as need
-
-pub returns-in-Some : need.returns-in-Some
-returns-in-Some c = record { answer = ap (λ o. answer o (report-in (c .args .words .now))) (c .in-Some .ensures tt); ranges = tt; lossless = lossless }
+use Rattle.report.proofs.Lossless.{read-is-written, masks-counted}
+use Rattle.report.proofs.read.report_in.Needs as need
 
 pub returns : need.returns
 returns c =
     let ws = c .args .words .now in
-    let none = sym (c .in-rest .ensures tt) in
+    let none = c .pre in
     let counted = masks-counted ws none in
     let few = few-masks ws in
     let n = c .nodes-in .ensures ∙ counted .0 in
@@ -43,10 +40,9 @@ returns c =
     in
     let full : filled (c .nodes-in .result) (c .masks-in .result) ≡ true = (λ i. filled (n i) (ms i)) ∙ filled-padded (masks-in ws) few ∙ counted .1 in
     record {
-      answer = ap Ok is ∙ ap (λ o. answer o (report-in ws)) (c .in-rest .ensures tt);
+      value = is;
       ranges =
           and-from (leb (c .nodes-in .result) 4 && filled (c .nodes-in .result) (c .masks-in .result)) _
           (and-from (leb (c .nodes-in .result) 4) (filled (c .nodes-in .result) (c .masks-in .result)) (le-leb (c .nodes-in .result) 4 (omega arith)) full)
           (ap is-report is ∙ read-is-written ws none .0);
-      lossless = lossless;
     }
