@@ -1,0 +1,5 @@
+pub mod Reflection
+pub mod Division
+pub mod Register
+pub mod Entries
+pub mod Detection
