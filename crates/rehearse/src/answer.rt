@@ -1,4 +1,6 @@
-// What the program says of a report.
+//! What the program says of each statement.
+
+use counter::crc32;
 use report::Mac;
 use report::Report;
 use report::Uuid;
@@ -71,4 +73,10 @@ fn tell_words(rt: &LibcRuntime, report: &Report) -> io::Result<()> {
         Err(WriteFault::Field) => println!(rt, "report: refused 17 Field"),
         Err(WriteFault::Short) => println!(rt, "report: refused 1 Short"),
     }
+}
+
+/// The counter of a row of bytes.
+pub fn tell_counter(rt: &LibcRuntime, bytes: &[u8]) -> io::Result<()> {
+    let crc = crc32(bytes);
+    println!(rt, "counter: {crc:08x}")
 }

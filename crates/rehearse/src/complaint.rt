@@ -1,3 +1,5 @@
+//! Complaints of lines that are no statement.
+
 use std::fmt;
 
 /// Why a line is no statement, with the word that is at fault.
@@ -5,6 +7,7 @@ use std::fmt;
 pub enum Complaint<'a> {
     Unknown(&'a str),
     NotHex(&'a str),
+    OddDigits(&'a str),
     /// The word, and the largest number that may stand there.
     TooLarge(&'a str, u128),
 }
@@ -14,6 +17,7 @@ pub impl fmt::Display for Complaint<'_> as ComplaintDisplay {
         match self {
             Complaint::Unknown(word) => write!(f, "no statement begins with '{word}'"),
             Complaint::NotHex(word) => write!(f, "'{word}' is not a number in hex"),
+            Complaint::OddDigits(word) => write!(f, "'{word}' has an odd number of digits"),
             Complaint::TooLarge(word, most) => write!(f, "'{word}' is above {most:x}"),
         }
     }

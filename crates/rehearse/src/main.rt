@@ -1,9 +1,11 @@
-// Plays a scenario from standard input, one statement a line, and prints every answer.
+//! Plays a scenario from standard input, one statement a line, and prints every answer.
+
 mod answer;
 mod complaint;
 mod number;
 mod statement;
 
+use answer::tell_counter;
 use answer::tell_report;
 use complaint::ComplaintDisplay;
 use statement::Statement;
@@ -38,6 +40,7 @@ fn play_line(rt: &LibcRuntime, number: u64, line: &str) -> io::Result<()> {
     match Statement::parse(rt.alloc(), line)? {
         Ok(Statement::Nothing) => Ok(()),
         Ok(Statement::Report(words)) => tell_report(rt, words.as_slice()),
+        Ok(Statement::Counter(bytes)) => tell_counter(rt, bytes.as_slice()),
         Err(complaint) => println!(rt, "line {number}: {complaint}"),
     }
 }

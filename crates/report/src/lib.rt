@@ -1,6 +1,7 @@
 //! What a backbone node reports of itself, its neighbours and its consist, and the words that carry it.
 
 mod fault;
+mod key;
 mod layout;
 mod range;
 mod read;
@@ -12,6 +13,9 @@ pub use fault::WordFaultPartialEq;
 pub use fault::WriteFault;
 pub use fault::WriteFaultDebug;
 pub use fault::WriteFaultPartialEq;
+pub use key::MacKey;
+pub use key::ReportRecord;
+pub use key::UuidKey;
 
 /// A MAC address, 1 to 2^48 - 1. Where a neighbour is named, 0 says that there is none.
 #[derive(Clone, Copy, PartialEq, Eq, Debug)]
