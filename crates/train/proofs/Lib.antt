@@ -1,0 +1,16 @@
+pub mod Members
+pub mod Flip
+pub mod SameAwake
+pub mod Chain
+pub mod Example
+pub mod Fit
+pub mod Reading
+pub mod Totals
+pub mod Agreed
+pub mod Networks
+pub mod Climbing
+pub mod Meetings
+pub mod Subnets
+pub mod Places
+pub mod Numbered
+pub mod Limits
