@@ -92,32 +92,32 @@ abbrev Written : List ℕ → Type 0
 Written ws = (is-report (report-in ws) ≡ true) × (words (report-in ws) ≡ ws)
 
 written-so :
-    (w0 w1 w2 w3 w4 w5 w6 w7 w8 w9 w10 w11 : ℕ) (rest : List ℕ)
-    → head w0 ≡ true
-    → of 2 24 w1 ≡ true → of 2 24 w2 ≡ true → is-mac (joined w1 w2) ≡ true
-    → of 2 24 w3 ≡ true → of 2 24 w4 ≡ true → of 2 24 w5 ≡ true → of 2 24 w6 ≡ true
-    → of 3 16 w7 ≡ true → of 3 28 w8 ≡ true → of 3 28 w9 ≡ true → of 3 28 w10 ≡ true → of 3 28 w11 ≡ true
-    → is-uuid (gathered w7 w8 w9 w10 w11) ≡ true
-    → (g : Bool) → g ≡ gapless (loads (take (min (w0 % 16) 4) rest))
-    → Tail (min (w0 % 16) 4) (λ _. g) rest
-    → Written (w0 ∷ w1 ∷ w2 ∷ w3 ∷ w4 ∷ w5 ∷ w6 ∷ w7 ∷ w8 ∷ w9 ∷ w10 ∷ w11 ∷ rest)
-written-so w0 w1 w2 w3 w4 w5 w6 w7 w8 w9 w10 w11 rest t0 t1 t2 own t3 t4 t5 t6 t7 t8 t9 t10 t11 named g is-g t =
-    let ws = w0 ∷ w1 ∷ w2 ∷ w3 ∷ w4 ∷ w5 ∷ w6 ∷ w7 ∷ w8 ∷ w9 ∷ w10 ∷ w11 ∷ rest in
+    (v0 v1 v2 v3 v4 v5 v6 v7 v8 v9 v10 v11 : ℕ) (rest : List ℕ)
+    → head v0 ≡ true
+    → of 2 24 v1 ≡ true → of 2 24 v2 ≡ true → is-mac (joined v1 v2) ≡ true
+    → of 2 24 v3 ≡ true → of 2 24 v4 ≡ true → of 2 24 v5 ≡ true → of 2 24 v6 ≡ true
+    → of 3 16 v7 ≡ true → of 3 28 v8 ≡ true → of 3 28 v9 ≡ true → of 3 28 v10 ≡ true → of 3 28 v11 ≡ true
+    → is-uuid (gathered v7 v8 v9 v10 v11) ≡ true
+    → (g : Bool) → g ≡ gapless (loads (take (min (v0 % 16) 4) rest))
+    → Tail (min (v0 % 16) 4) (λ _. g) rest
+    → Written (v0 ∷ v1 ∷ v2 ∷ v3 ∷ v4 ∷ v5 ∷ v6 ∷ v7 ∷ v8 ∷ v9 ∷ v10 ∷ v11 ∷ rest)
+written-so v0 v1 v2 v3 v4 v5 v6 v7 v8 v9 v10 v11 rest t0 t1 t2 own t3 t4 t5 t6 t7 t8 t9 t10 t11 named g is-g t =
+    let ws = v0 ∷ v1 ∷ v2 ∷ v3 ∷ v4 ∷ v5 ∷ v6 ∷ v7 ∷ v8 ∷ v9 ∷ v10 ∷ v11 ∷ rest in
     let r = report-in ws in
-    let h = headed w0 t0 in
+    let h = headed v0 t0 in
     let few = h .few in
     let first = h .first in
     let within = h .within in
     let long = t .long in
-    let m1 = halves w1 w2 t1 t2 in
-    let m2 = halves w3 w4 t3 t4 in
-    let m3 = halves w5 w6 t5 t6 in
-    let u = fifths w7 w8 w9 w10 w11 t7 t8 t9 t10 t11 in
-    let same : word 1 (16 * (w0 / 16 % 16) + length (loads (take (min (w0 % 16) 4) rest))) ≡ w0 = omega (arith, h .is) in
+    let m1 = halves v1 v2 t1 t2 in
+    let m2 = halves v3 v4 t3 t4 in
+    let m3 = halves v5 v6 t5 t6 in
+    let u = fifths v7 v8 v9 v10 v11 t7 t8 t9 t10 t11 in
+    let same : word 1 (16 * (v0 / 16 % 16) + length (loads (take (min (v0 % 16) 4) rest))) ≡ v0 = omega (arith, h .is) in
     let macs : macs-fit r ≡ true =
     and-from (is-mac (r .mac) && is-neighbour (r .side1)) (is-neighbour (r .side2))
-    (and-from (is-mac (r .mac)) (is-neighbour (r .side1)) own (lt-ltb (joined w3 w4) (2 ^ 48) (m2 .fits)))
-    (lt-ltb (joined w5 w6) (2 ^ 48) (m3 .fits))
+    (and-from (is-mac (r .mac)) (is-neighbour (r .side1)) own (lt-ltb (joined v3 v4) (2 ^ 48) (m2 .fits)))
+    (lt-ltb (joined v5 v6) (2 ^ 48) (m3 .fits))
     in
     let place : place-fits r ≡ true =
     and-from (leb (length (r .masks)) 4 && leb 1 (r .position)) (leb (r .position) (length (r .masks)))
@@ -220,26 +220,26 @@ module _ (r : Report) (e : is-report r ≡ true) where
       let place = facts-place r (parts .2) in
       let masks = and-parts (all-masks (r .masks)) (gapless (r .masks)) (parts .3) in
       let u = named in
-      let w0 : head (word 1 (16 * r .position + length (r .masks))) ≡ true = head-word (r .position) (length (r .masks)) (place .0) (place .1) (place .2) in
-      let w1 = of-word 2 24 (r .mac / 2 ^ 24) (omega arith) (omega arith) in
+      let v0 : head (word 1 (16 * r .position + length (r .masks))) ≡ true = head-word (r .position) (length (r .masks)) (place .0) (place .1) (place .2) in
+      let v1 = of-word 2 24 (r .mac / 2 ^ 24) (omega arith) (omega arith) in
       let own : is-mac (mac-in 1 ws) ≡ true = ap is-mac (mac-back (r .mac) (macs .1)) ∙ macs .0 in
-      let w2 = and-from (of 2 24 (word 2 (r .mac % 2 ^ 24))) (is-mac (mac-in 1 ws)) (of-word 2 24 (r .mac % 2 ^ 24) (omega arith) (omega arith)) own in
-      let w3 = of-word 2 24 (r .side1 / 2 ^ 24) (omega arith) (omega arith) in
-      let w4 = of-word 2 24 (r .side1 % 2 ^ 24) (omega arith) (omega arith) in
-      let w5 = of-word 2 24 (r .side2 / 2 ^ 24) (omega arith) (omega arith) in
-      let w6 = of-word 2 24 (r .side2 % 2 ^ 24) (omega arith) (omega arith) in
-      let w7 = of-word 3 16 (r .uuid / 2 ^ 112) (omega arith) (omega arith) in
-      let w8 = of-word 3 28 (r .uuid / 2 ^ 84 % 2 ^ 28) (omega arith) (omega arith) in
-      let w9 = of-word 3 28 (r .uuid / 2 ^ 56 % 2 ^ 28) (omega arith) (omega arith) in
-      let w10 = of-word 3 28 (r .uuid / 2 ^ 28 % 2 ^ 28) (omega arith) (omega arith) in
+      let v2 = and-from (of 2 24 (word 2 (r .mac % 2 ^ 24))) (is-mac (mac-in 1 ws)) (of-word 2 24 (r .mac % 2 ^ 24) (omega arith) (omega arith)) own in
+      let v3 = of-word 2 24 (r .side1 / 2 ^ 24) (omega arith) (omega arith) in
+      let v4 = of-word 2 24 (r .side1 % 2 ^ 24) (omega arith) (omega arith) in
+      let v5 = of-word 2 24 (r .side2 / 2 ^ 24) (omega arith) (omega arith) in
+      let v6 = of-word 2 24 (r .side2 % 2 ^ 24) (omega arith) (omega arith) in
+      let v7 = of-word 3 16 (r .uuid / 2 ^ 112) (omega arith) (omega arith) in
+      let v8 = of-word 3 28 (r .uuid / 2 ^ 84 % 2 ^ 28) (omega arith) (omega arith) in
+      let v9 = of-word 3 28 (r .uuid / 2 ^ 56 % 2 ^ 28) (omega arith) (omega arith) in
+      let v10 = of-word 3 28 (r .uuid / 2 ^ 28 % 2 ^ 28) (omega arith) (omega arith) in
       let last : is-uuid (uuid-in ws) ≡ true = ap is-uuid (uuid-back (r .uuid) u) ∙ parts .1 in
-      let w11 = and-from (of 3 28 (word 3 (r .uuid % 2 ^ 28))) (is-uuid (uuid-in ws)) (of-word 3 28 (r .uuid % 2 ^ 28) (omega arith) (omega arith)) last in
+      let v11 = and-from (of 3 28 (word 3 (r .uuid % 2 ^ 28))) (is-uuid (uuid-in ws)) (of-word 3 28 (r .uuid % 2 ^ 28) (omega arith) (omega arith)) last in
       let ends : gapless (masks-in ws) ≡ true = ap gapless masks-back ∙ masks .1 in
       let rest : first-wrong 12 (behind ws) (map (word 4) (r .masks) ++ 0 ∷ []) ≡ None =
       ap (λ n. first-wrong 12 (replicate n mask-word ++ end-word ws ∷ []) (map (word 4) (r .masks) ++ 0 ∷ [])) nodes-back
       ∙ tail-back (r .masks) 12 (λ _. gapless (masks-in ws)) (masks .0) ends
       in
-      rw (w0, w1, w2, w3, w4, w5, w6, w7, w8, w9, w10, w11) rest
+      rw (v0, v1, v2, v3, v4, v5, v6, v7, v8, v9, v10, v11) rest
 
   pub reads-back : read (words r) ≡ Ok r
   reads-back = ap (λ o. answer o (report-in (words r))) none-wrong ∙ ap Ok report-back
