@@ -1,0 +1,11 @@
+pub mod Climbs
+pub mod Subnets
+pub mod Networks
+pub mod Filling
+pub mod Octets
+pub mod Searches
+pub mod Members
+pub mod NetworksUndo
+pub mod NodesUndo
+pub mod Readings
+pub mod Places
