@@ -2,12 +2,14 @@
 
 mod answer;
 mod complaint;
+mod hello;
 mod number;
 mod statement;
 
 use answer::tell_counter;
 use answer::tell_report;
 use complaint::ComplaintDisplay;
+use hello::tell_hello;
 use statement::Statement;
 use std::error::AnyError;
 use std::io;
@@ -41,6 +43,7 @@ fn play_line(rt: &LibcRuntime, number: u64, line: &str) -> io::Result<()> {
         Ok(Statement::Nothing) => Ok(()),
         Ok(Statement::Report(words)) => tell_report(rt, words.as_slice()),
         Ok(Statement::Counter(bytes)) => tell_counter(rt, bytes.as_slice()),
+        Ok(Statement::Hello(frame)) => tell_hello(rt, frame.as_slice()),
         Err(complaint) => println!(rt, "line {number}: {complaint}"),
     }
 }

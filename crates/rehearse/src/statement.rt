@@ -14,6 +14,7 @@ pub enum Statement {
     Nothing,
     Report(Vec<u32>),
     Counter(Vec<u8>),
+    Hello(Vec<u8>),
 }
 
 /// What a line says, or why it is no statement; want of memory ends the program.
@@ -29,7 +30,14 @@ impl Statement {
         match tokens.next() {
             None => Ok(Ok(Statement::Nothing)),
             Some("report") => words(heap, tokens),
-            Some("counter") => bytes(heap, tokens),
+            Some("counter") => match bytes(heap, tokens)? {
+                Ok(bytes) => Ok(Ok(Statement::Counter(bytes))),
+                Err(complaint) => Ok(Err(complaint)),
+            },
+            Some("hello") => match bytes(heap, tokens)? {
+                Ok(bytes) => Ok(Ok(Statement::Hello(bytes))),
+                Err(complaint) => Ok(Err(complaint)),
+            },
             Some(other) => Ok(Err(Complaint::Unknown(other))),
         }
     }
@@ -46,12 +54,12 @@ fn words<'a>(heap: Global, tokens: SplitWhitespace<'a>) -> Parsed<'a, Statement>
     Ok(Ok(Statement::Report(words)))
 }
 
-fn bytes<'a>(heap: Global, tokens: SplitWhitespace<'a>) -> Parsed<'a, Statement> {
+fn bytes<'a>(heap: Global, tokens: SplitWhitespace<'a>) -> Parsed<'a, Vec<u8>> {
     let mut bytes = Vec::new(heap);
     for token in tokens {
         if let Err(complaint) = push_bytes(token, &mut bytes)? {
             return Ok(Err(complaint));
         }
     }
-    Ok(Ok(Statement::Counter(bytes)))
+    Ok(Ok(bytes))
 }

@@ -1,0 +1,5 @@
+pub mod Turns
+pub mod Numbers
+pub mod Walks
+pub mod Frames
+pub mod Judging
