@@ -27,7 +27,7 @@ word() {
     cat "$frame"
 } > "$pcap"
 text=$(tshark -r "$pcap" -V 2> /dev/null)
-for wanted in 'Link Layer Discovery Protocol' '20:0e:95|0x200e95' 'End of LLDPDU TLV'; do
+for wanted in 'Link Layer Discovery Protocol' '20:0e:95|0x200e95' 'End of LLDPDU'; do
     if ! printf '%s\n' "$text" | grep -qiE -- "$wanted"; then
         echo "c/tshark.sh: tshark does not show: $wanted"
         exit 1
