@@ -1,5 +1,5 @@
 -- What the loops of `fill` keep. Assumes nothing.
-use mathlib.Core.Path.{_≡_, refl, sym, ap, _∙_}
+use mathlib.Core.Path.{_≡_, sym, ap, _∙_}
 use mathlib.Core.Bool.{true, false, cond, not}
 use mathlib.Core.List.{List, [], _∷_, _++_, map}
 use mathlib.Core.Logic.{⊎-elim}
@@ -8,21 +8,19 @@ use native.Mathlib.Omega.{arith}
 use lib.Dec.{eqb}
 use lib.ListN.{length, take, drop, getD, set}
 use Rattle.std.specs.declared.option.Option.the-variants.{Some, None}
-use Rattle.std.specs.shelf.Lists.{kept-by}
-use Rattle.std.proofs.shelf.Lists.{take-more-set, getD-take, length-set, length-take-le, length-map, map-push, at-drop-more, at-drop-all, append-nil, take-all, take-at}
+use Rattle.std.proofs.shelf.Lists.{take-more-set, getD-take, length-set, length-take-le, length-map, map-push, at-drop-more, at-drop-all, take-all, take-at}
 use Rattle.std.proofs.shelf.Lanes.{map-map}
 use Rattle.std.proofs.shelf.Tests.{cond-true, cond-false, eq-eqb, ne-eqb, both-ways, cases-lt, not-from-true, not-from-false}
 use Rattle.report.specs.Masks.{serves}
 use Rattle.train.specs.Numbers.{climbs}
-use Rattle.train.specs.Rules.{networks}
 use Rattle.train.specs.Rows.{Met, Meeting, meetings, Row, row, given, numbered, rows-met}
 use Rattle.directory.specs.declared.row.Row as code
 use Rattle.directory.specs.declared.row.MetNode.{MetNode}
 use Rattle.directory.specs.declared.row.Way.the-variants.{Forward}
-use Rattle.directory.specs.Meaning.{blank, row-means, rows-mean, met-means, serving}
+use Rattle.directory.specs.Meaning.{blank, row-means, rows-mean, met-means, meeting, serving}
 use Rattle.directory.specs.Asked.{highest}
 use Rattle.directory.proofs.Climbs.{highest-push, climbs-push, climbs-few}
-use Rattle.directory.proofs.Subnets.{or-next, is-for, Filled, given-within, filled-push, filled-left, filled-none, filled-all}
+use Rattle.directory.proofs.Subnets.{or-next, is-for, Filled, given-within, filled-push, filled-left, filled-all}
 use Rattle.directory.proofs.Networks.{served, served-on, served-off, served-all, serves-some}
 
 abbrev pub nodes : List Row → List ℕ
@@ -85,12 +83,9 @@ module _
       filled = rw pushed (filled-push (rows-mean (take count rows)) top m left all s (h .filled) gives);
     }
 
-abbrev pub meet : Met → ℕ → ℕ → Meeting
-meet x number c = record { uuid = x .uuid; cn = c; node = number; way = x .way }
-
 -- the meetings that are left at network n of node x, the nodes xs behind it
 abbrev pub left-at : Met → List Met → ℕ → ℕ → List Meeting
-left-at x xs number n = map (meet x number) (served (x .mask) n) ++ meetings (number + 1) xs
+left-at x xs number n = map (meeting x number) (served (x .mask) n) ++ meetings (number + 1) xs
 
 -- at network n of node x
 pub record Turn (x : Met) (xs : List Met) (all : List Row) (number n : ℕ) (rows : List code.Row) (count top : ℕ) : Type 0 where
@@ -106,7 +101,7 @@ module _ (x : Met) (xs : List Met) (all : List Row) (number n : ℕ) (rows : Lis
   turn-not few off = record {
     held =
         held-left rows count top (left-at x xs number n) (left-at x xs number (n + 1)) all
-        (ap (λ ns. map (meet x number) ns ++ meetings (number + 1) xs) (served-off (x .mask) n few off)) (t .held);
+        (ap (λ ns. map (meeting x number) ns ++ meetings (number + 1) xs) (served-off (x .mask) n few off)) (t .held);
     one = t .one;
     next = t .next;
     most = t .most;
@@ -118,14 +113,14 @@ module _ (x : Met) (xs : List Met) (all : List Row) (number n : ℕ) (rows : Lis
 
   -- one that it serves
   pub turn-put :
-      (r : code.Row) (s : ℕ) → n ≤ 8 → serves (x .mask) n ≡ true → count < 128 → row-means r ≡ row (meet x number n) s
+      (r : code.Row) (s : ℕ) → n ≤ 8 → serves (x .mask) n ≡ true → count < 128 → row-means r ≡ row (meeting x number n) s
       → s ≡ or-next top (given (x .uuid) n (rows-mean (take count rows)))
       → Turn x xs all number (n + 1) (set rows count r) (count + 1) (max top s)
   turn-put r s few on room is gives =
-      let m = meet x number n in
+      let m = meeting x number n in
       let h : Held rows count top (m ∷ left-at x xs number (n + 1)) all =
       held-left rows count top (left-at x xs number n) (m ∷ left-at x xs number (n + 1)) all
-      (ap (λ ns. map (meet x number) ns ++ meetings (number + 1) xs) (served-on (x .mask) n few on)) (t .held)
+      (ap (λ ns. map (meeting x number) ns ++ meetings (number + 1) xs) (served-on (x .mask) n few on)) (t .held)
       in
       let up = high-push rows count top m (left-at x xs number (n + 1)) all r s h room is in
       let top-now : high (set rows count r) (count + 1) ≡ number = omega (arith, t .most) in
@@ -199,21 +194,8 @@ round-ends ns i number n rows count top t past last byte on =
     record {
       held =
           held-left rows count top (left-at x (behind ns (i + 1)) number n) (meetings (number + 1) (behind ns (i + 1))) (rows-met (behind ns 0))
-          (ap (λ cs. map (meet x number) cs ++ meetings (number + 1) (behind ns (i + 1))) (served-all (x .mask) n past)) (t .held);
+          (ap (λ cs. map (meeting x number) cs ++ meetings (number + 1) (behind ns (i + 1))) (served-all (x .mask) n past)) (t .held);
       number-is = serves-some (x .mask) (high rows count ≡ number) byte on (λ j one few e. t .reached j one (omega arith) e);
-    }
-
-pub round-none : (ns : List MetNode) (rows : List code.Row) (count : ℕ) → length rows ≡ 128 → count ≡ 0 → Round ns 0 0 rows count 0
-round-none ns rows count long none =
-    let e : rows-mean (take count rows) ≡ [] = ap (λ n. rows-mean (take n rows)) none in
-    record {
-      held = record {
-        long = long;
-        few = omega arith;
-        nodes-run = rw e refl;
-        filled = rw e (filled-none (meetings 1 (behind ns 0)));
-      };
-      number-is = rw e refl;
     }
 
 -- the search for a subnet, one row on
@@ -229,14 +211,18 @@ module _ (u n k count : ℕ) (rows : List code.Row) (long : length rows ≡ 128)
       (getD-take count rows k blank there)
 
   pub look-past :
-      k < count → is-for u n (row-means (getD rows k blank)) ≡ false
+      k < count → false ≡ is-for u n (row-means (getD rows k blank))
       → given u n (rows-mean (drop (k + 1) (take count rows))) ≡ given u n (rows-mean (drop k (take count rows)))
-  look-past there off = sym (look-more there ∙ cond-false (is-for u n (row-means (getD rows k blank))) (Some (getD rows k blank .subnet)) (given u n (rows-mean (drop (k + 1) (take count rows)))) off)
+  look-past there off =
+      sym (look-more there
+      ∙ cond-false (is-for u n (row-means (getD rows k blank))) (Some (getD rows k blank .subnet)) (given u n (rows-mean (drop (k + 1) (take count rows)))) (sym off))
 
   pub look-found :
-      k < count → is-for u n (row-means (getD rows k blank)) ≡ true
+      k < count → true ≡ is-for u n (row-means (getD rows k blank))
       → given u n (rows-mean (drop k (take count rows))) ≡ Some (getD rows k blank .subnet)
-  look-found there on = look-more there ∙ cond-true (is-for u n (row-means (getD rows k blank))) (Some (getD rows k blank .subnet)) (given u n (rows-mean (drop (k + 1) (take count rows)))) on
+  look-found there on =
+      look-more there
+      ∙ cond-true (is-for u n (row-means (getD rows k blank))) (Some (getD rows k blank .subnet)) (given u n (rows-mean (drop (k + 1) (take count rows)))) (sym on)
 
   pub look-none : count ≤ k → given u n (rows-mean (drop k (take count rows))) ≡ None
   look-none past =

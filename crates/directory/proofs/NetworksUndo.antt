@@ -1,9 +1,8 @@
 -- Subnets and the networks of consists undo each other. Assumes nothing.
 use mathlib.Core.Path.{_≡_, refl, sym, ap, _∙_}
-use mathlib.Core.Bool.{true, _&&_}
 use mathlib.Core.List.{List, [], _∷_, _++_, map}
-use mathlib.Core.Logic.{_⊎_, inl, inr, ⊎-elim}
-use Prim.Native.Nat.{ℕ, max, _+_, _≤_, _<_}
+use mathlib.Core.Logic.{_⊎_, ⊎-elim}
+use Prim.Native.Nat.{ℕ, max, _+_, _≤_}
 use native.Mathlib.Omega.{arith}
 use lib.Dec.{eqb}
 use lib.ListN.{take}
@@ -12,7 +11,7 @@ use Rattle.std.specs.declared.option.Option.the-variants.{Some, None}
 use Rattle.std.proofs.shelf.Tests.{and-parts, and-from, eqb-true, eq-eqb}
 use Rattle.train.specs.Truth.{In, here, there}
 use Rattle.train.specs.Rows.{Met, Meeting, meetings, Row, row, given, rows-met}
-use Rattle.directory.specs.Asked.{highest, first-where, carried, network-of}
+use Rattle.directory.specs.Asked.{highest, first-where, carried}
 use Rattle.directory.specs.Lookups.{Networks-undo}
 use Rattle.directory.proofs.Climbs.{highest-above}
 use Rattle.directory.proofs.Subnets.{or-next, is-for, Filled, filled-push, filled-none, filled-all}

@@ -1,26 +1,26 @@
 -- Node numbers and the places of nodes undo each other. Assumes nothing.
 use mathlib.Core.Path.{_≡_, refl, sym, ap, subst, _∙_}
-use mathlib.Core.Bool.{true, false, cond, _&&_}
-use mathlib.Core.List.{List, [], _∷_, _++_, map}
+use mathlib.Core.Bool.{true, false, cond}
+use mathlib.Core.List.{List, [], _∷_, map}
 use mathlib.Core.Logic.{_⊎_, inl, inr, ⊎-elim}
-use Prim.Native.Nat.{ℕ, min, max, _+_, _-_, _≤_, _<_}
+use Prim.Native.Nat.{ℕ, min, max, _+_, _-_, _≤_}
 use native.Mathlib.Omega.{arith}
 use lib.Dec.{eqb}
 use lib.ListN.{length, take}
 use Rattle.std.specs.declared.option.Option.{Option}
 use Rattle.std.specs.declared.option.Option.the-variants.{Some, None}
 use Rattle.std.specs.shelf.Lists.{kept-by}
-use Rattle.std.proofs.shelf.Tests.{and-parts, and-from, eqb-true, eq-eqb, cond-true, cases-bool, cases-lt}
+use Rattle.std.proofs.shelf.Tests.{and-parts, and-from, eqb-true, eq-eqb, cond-true, cases-lt}
 use Rattle.train.specs.Line.{Way, forward, turned}
 use Rattle.train.specs.Truth.{In, here, there}
 use Rattle.train.specs.Rules.{networks}
 use Rattle.train.specs.Rows.{Met, Meeting, meetings, Row, row, given, numbered, rows-met}
-use Rattle.directory.specs.Asked.{lowest, highest, nodes-of, position, position-in, is-at, first-where, carried, place-of, number-of}
+use Rattle.directory.specs.Meaning.{meeting}
+use Rattle.directory.specs.Asked.{lowest, highest, nodes-of, position, position-in, is-at, first-where, carried, place-of}
 use Rattle.directory.specs.Lookups.{One-way, Nodes-undo}
 use Rattle.directory.proofs.Climbs.{highest-above}
 use Rattle.directory.proofs.Subnets.{numbered-some, numbered-none}
 use Rattle.directory.proofs.Searches.{lowest-below}
-use Rattle.directory.proofs.Filling.{meet}
 use Rattle.directory.proofs.Members.{in-append, in-take, carried-some, first-in, first-some}
 
 -- Rows and the meetings that they come of.
@@ -57,7 +57,7 @@ comes-of firsts [] r i = elim i [ ]
 comes-of firsts (m ∷ ms) r i = comes-at firsts m ms r (λ qs j. comes-of qs ms r j) (given (m .uuid) (m .cn) firsts) refl i
 
 -- Meetings and the nodes that they come of.
-pub of-node : (x : Met) (n : ℕ) (cs : List ℕ) (m : Meeting) → In m (map (meet x n) cs) → (m .uuid ≡ x .uuid) × (m .node ≡ n) × (m .way ≡ x .way)
+pub of-node : (x : Met) (n : ℕ) (cs : List ℕ) (m : Meeting) → In m (map (meeting x n) cs) → (m .uuid ≡ x .uuid) × (m .node ≡ n) × (m .way ≡ x .way)
 of-node x n [] m i = elim i [ ]
 of-node x n (c ∷ cs) m here = (refl, refl, refl)
 of-node x n (c ∷ cs) m (there i) = of-node x n cs m i
@@ -67,20 +67,20 @@ met-of n [] m i = elim i [ ]
 met-of n (x ∷ xs) m i =
     ⊎-elim (λ j. let p = of-node x n (networks (x .mask)) m j in (x, here, p .0, p .2))
     (λ j. let p = met-of (n + 1) xs m j in (p .0, there (p .1), p .2, p .3))
-    (in-append m (map (meet x n) (networks (x .mask))) (meetings (n + 1) xs) i)
+    (in-append m (map (meeting x n) (networks (x .mask))) (meetings (n + 1) xs) i)
 
 node-low : (n : ℕ) (xs : List Met) (m : Meeting) → In m (meetings n xs) → n ≤ m .node
 node-low n [] m i = elim i [ ]
 node-low n (x ∷ xs) m i =
     ⊎-elim (λ j. omega (arith, of-node x n (networks (x .mask)) m j .1)) (λ j. omega (arith, node-low (n + 1) xs m j))
-    (in-append m (map (meet x n) (networks (x .mask))) (meetings (n + 1) xs) i)
+    (in-append m (map (meeting x n) (networks (x .mask))) (meetings (n + 1) xs) i)
 
 pub one-node :
     (n : ℕ) (xs : List Met) (m k : Meeting) → In m (meetings n xs) → In k (meetings n xs) → m .node ≡ k .node
     → (m .uuid ≡ k .uuid) × (m .way ≡ k .way)
 one-node n [] m k i j e = elim i [ ]
 one-node n (x ∷ xs) m k i j e =
-    let mine = map (meet x n) (networks (x .mask)) in
+    let mine = map (meeting x n) (networks (x .mask)) in
     let rest = meetings (n + 1) xs in
     ⊎-elim
     (λ a.
@@ -199,6 +199,11 @@ position-one rs r s i j eu ew e =
     apart (r .way) (r .node) (s .node) low high (lowest-le (r .node) (r .node) ns ri) (lowest-le (r .node) (s .node) ns si)
     (highest-ge (r .node) (r .node) ns ri) (highest-ge (r .node) (s .node) ns si) (e ∙ there)
 
+pub place-found :
+    (n u p : ℕ) (rs : List Row) (r : Row) → first-where (λ r. eqb (r .node) n) rs ≡ Some r → r .uuid ≡ u → position-in rs r ≡ p
+    → place-of n rs ≡ Some (u, p)
+place-found n u p rs r e eu ep = ap (λ o. carried (λ (r : Row). (r .uuid, position-in rs r)) o) e ∙ (λ k. Some (eu k, ep k))
+
 undo : (rs : List Row) → Together rs → Nodes-undo rs
 undo rs g = record {
   number-back =
@@ -214,8 +219,8 @@ undo rs g = record {
       let j = first-in (is-at rs u p) rs s (h .1) in
       let q = and-parts (eqb (s .uuid) u) (eqb (position-in rs s) p) (j .1) in
       let su = eqb-true (s .uuid) u (q .0) ∙ sym eu in
-      let sp = eqb-true (position-in rs s) p (q .1) ∙ sym ep in
-      let same = position-one rs s r (j .0) (i .0) su (g .one-way s r (j .0) (i .0) su) sp in
+      let sp : position-in rs s ≡ position-in rs r = eqb-true (position-in rs s) p (q .1) ∙ sym ep in
+      let same : s .node ≡ r .node = position-one rs s r (j .0) (i .0) su (g .one-way s r (j .0) (i .0) su) sp in
       ap (λ o. carried (λ (r : Row). r .node) o) (h .1) ∙ ap (λ k. Some k) (same ∙ eqb-true (r .node) n (i .1));
   place-back =
       λ u p n e.
@@ -229,8 +234,8 @@ undo rs g = record {
       let en = eqb-true (s .node) n (j .1) ∙ sym (f .2) in
       let o = g .one-node s r (j .0) (i .0) en in
       let eu = o .0 ∙ eqb-true (r .uuid) u (q .0) in
-      let ep = position-same rs s r (o .0) en (o .1) ∙ eqb-true (position-in rs r) p (q .1) in
-      ap (λ o. carried (λ (r : Row). (r .uuid, position-in rs r)) o) (h .1) ∙ (λ k. Some (eu k, ep k));
+      let ep : position-in rs s ≡ p = position-same rs s r (o .0) en (o .1) ∙ eqb-true (position-in rs r) p (q .1) in
+      place-found n u p rs s (h .1) eu ep;
 }
 
 pub nodes-undo : (xs : List Met) → One-way xs → Nodes-undo (take 128 (rows-met xs))

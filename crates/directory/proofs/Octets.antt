@@ -1,18 +1,15 @@
 -- The bytes of rows, side by side. Assumes nothing.
 use mathlib.Core.Path.{_≡_, refl, sym, ap, _∙_}
-use mathlib.Core.List.{List, [], _∷_, _++_, map}
+use mathlib.Core.List.{List, [], _∷_, _++_}
 use Prim.Native.Nat.{ℕ, _+_, _*_, _/_, _%_, _^_, _≤_, _<_}
 use native.Mathlib.Nat.{div-div-eq-div-mul}
 use native.Mathlib.Omega.{arith}
 use borrow.Rule.Slice.PartMut.{putMid}
 use lib.ListN.{length, take, drop, getD}
 use Rattle.std.proofs.shelf.Lists.{append-assoc, joined-more, map-more, length-append, length-map, length-take-le, take-at, drop-at, drop-drop}
-use Rattle.report.specs.Reports.{whole}
 use Rattle.keyed.specs.Table.{written}
-use Rattle.report.specs.declared.Uuid.{Uuid}
-use Rattle.train.specs.Line.{Way}
 use Rattle.train.specs.Rows.{Row}
-use Rattle.train.specs.Bytes.{big-endian, direction, row-word, row-bytes, rows-bytes}
+use Rattle.train.specs.Bytes.{big-endian, row-bytes, rows-bytes}
 use Rattle.directory.specs.declared.row.Row as code
 use Rattle.directory.specs.Meaning.{blank, row-means, rows-mean}
 

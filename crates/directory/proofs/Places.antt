@@ -1,28 +1,28 @@
 -- The place of each node of a line stands in its rows. Assumes nothing.
 use mathlib.Core.Path.{_≡_, refl, sym, ap, subst, _∙_}
-use mathlib.Core.Bool.{true, false, cond, not}
+use mathlib.Core.Bool.{true}
 use mathlib.Core.List.{List, [], _∷_, _++_, map, reverse, reverseAux, reverse-cons}
-use mathlib.Core.Logic.{_⊎_, inl, inr, ⊎-elim}
-use Prim.Native.Nat.{ℕ, suc, _+_, _-_, _≤_, _<_}
+use mathlib.Core.Logic.{_⊎_, ⊎-elim}
+use Prim.Native.Nat.{ℕ, suc, _+_, _-_, _≤_}
 use native.Mathlib.Omega.{arith}
 use lib.Dec.{eqb, ltb}
 use lib.ListN.{length, take}
 use Rattle.std.specs.declared.option.Option.{Option}
 use Rattle.std.specs.declared.option.Option.the-variants.{Some, None}
-use Rattle.std.specs.shelf.Lists.{All, kept-by, joined}
-use Rattle.std.proofs.shelf.Lists.{length-append, length-map, length-reverse, take-all}
+use Rattle.std.specs.shelf.Lists.{All, kept-by}
+use Rattle.std.proofs.shelf.Lists.{length-reverse, take-all}
 use Rattle.std.proofs.shelf.Tests.{cond-both, eqb-true, eq-eqb}
 use Rattle.train.specs.Line.{Way, forward, turned, masks, Coupled, Line, turn, flip}
 use Rattle.train.specs.Truth.{In, here, there}
 use Rattle.train.specs.Rules.{Different, uuids, IsLine, networks}
-use Rattle.train.specs.Rows.{left, reading, counted, Met, met-in, met, Meeting, meetings, Row, row, given, numbered, rows-met, rows}
-use Rattle.directory.specs.Asked.{lowest, highest, nodes-of, position, position-in, first-where, carried, place-of}
+use Rattle.train.specs.Rows.{left, reading, counted, Met, met-in, met, Meeting, meetings, Row, row, given, numbered, rows}
+use Rattle.directory.specs.Meaning.{meeting}
+use Rattle.directory.specs.Asked.{lowest, highest, nodes-of, position, position-in, place-of}
 use Rattle.directory.specs.Lookups.{Lookups}
 use Rattle.directory.proofs.Subnets.{numbered-some, numbered-none}
 use Rattle.directory.proofs.Networks.{in-networks}
-use Rattle.directory.proofs.Filling.{meet}
 use Rattle.directory.proofs.Members.{in-cases, in-single, in-append, in-left, in-right, in-map, into-map, first-in, first-some, all-in}
-use Rattle.directory.proofs.NodesUndo.{Comes-of, comes-of, lowest-le, lowest-is, highest-ge, highest-is, in-nodes, of-node, nodes-undo}
+use Rattle.directory.proofs.NodesUndo.{comes-of, lowest-le, lowest-is, highest-ge, highest-is, in-nodes, of-node, place-found, nodes-undo}
 use Rattle.directory.proofs.Readings.{of-consist, mask-range, line-undo, line-rows}
 use Rattle.directory.proofs.NetworksUndo.{networks-undo}
 
@@ -225,14 +225,14 @@ meeting-of n (x ∷ xs) m i =
     ⊎-elim
     (λ j. let p = of-node x n (networks (x .mask)) m j in (x, subst (λ k. In (k, x) (counted n (x ∷ xs))) (sym (p .1)) here, p .0, p .2))
     (λ j. let p = meeting-of (n + 1) xs m j in (p .0, there (p .1), p .2, p .3))
-    (in-append m (map (meet x n) (networks (x .mask))) (meetings (n + 1) xs) i)
+    (in-append m (map (meeting x n) (networks (x .mask))) (meetings (n + 1) xs) i)
 
 -- a node that serves a network meets it
-meets : (n k : ℕ) (xs : List Met) (x : Met) (c : ℕ) → In (k, x) (counted n xs) → In c (networks (x .mask)) → In (meet x k c) (meetings n xs)
+meets : (n k : ℕ) (xs : List Met) (x : Met) (c : ℕ) → In (k, x) (counted n xs) → In c (networks (x .mask)) → In (meeting x k c) (meetings n xs)
 meets n k [] x c i h = elim i [ ]
-meets n k (y ∷ xs) x c here h = in-left (meet x k c) (map (meet x k) (networks (x .mask))) (meetings (n + 1) xs) (into-map (meet x k) c (networks (x .mask)) h)
+meets n k (y ∷ xs) x c here h = in-left (meeting x k c) (map (meeting x k) (networks (x .mask))) (meetings (n + 1) xs) (into-map (meeting x k) c (networks (x .mask)) h)
 meets n k (y ∷ xs) x c (there i) h =
-    in-right (meet x k c) (map (meet y n) (networks (y .mask))) (meetings (n + 1) xs) (meets (n + 1) k xs x c i h)
+    in-right (meeting x k c) (map (meeting y n) (networks (y .mask))) (meetings (n + 1) xs) (meets (n + 1) k xs x c i h)
 
 record Gives (m : Meeting) (rs : List Row) : Type 0 where
   given-row : Row
@@ -298,7 +298,7 @@ module _ (l : Line) (is : IsLine l) where
   row-of k x i =
       let m = mask-range l is x (counted-in 1 k x (met (reading l)) i) in
       let c = in-networks (x .mask) (omega (arith, m .1)) (λ z. let f : ⊥ = omega (arith, m .0) in f) in
-      let g = gives [] (meetings 1 (met (reading l))) (meet x k (c .0)) (meets 1 k (met (reading l)) x (c .0) i (c .1)) in
+      let g = gives [] (meetings 1 (met (reading l))) (meeting x k (c .0)) (meets 1 k (met (reading l)) x (c .0) i (c .1)) in
       (g .given-row, g .is-in, g .uuid, g .node)
 
   node-of : (r : Row) → In r (rows l) → (x : Met) × In (r .node, x) (counted 1 (met (reading l))) × (r .uuid ≡ x .uuid) × (r .way ≡ x .way)
@@ -345,8 +345,7 @@ module _ (l : Line) (is : IsLine l) where
       let eu : r .uuid ≡ x .uuid = y .2 ∙ ap (λ z. z .uuid) same in
       let ew : r .way ≡ x .way = y .3 ∙ ap (λ z. z .way) same in
       let ep = position-true r x (subst (λ n. In (n, x) (counted 1 (met (reading l)))) (sym en) i) eu ew in
-      ap (λ rs. place-of k rs) (take-all 128 (rows l) few) ∙ ap (λ o. carried (λ (r : Row). (r .uuid, position-in (rows l) r)) o) (f .1)
-      ∙ (λ j. Some (eu j, ep j))
+      ap (λ rs. place-of k rs) (take-all 128 (rows l) few) ∙ place-found k (x .uuid) (x .position) (rows l) r (f .1) eu ep
 
 pub lookups : Lookups
 lookups = record { networks = networks-undo; nodes = nodes-undo; line = line-undo; line-rows = line-rows; line-places = line-places }

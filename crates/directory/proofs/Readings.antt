@@ -1,15 +1,14 @@
 -- The nodes of a line as its reading meets them. Assumes nothing.
 use mathlib.Core.Path.{_≡_, refl, sym, ap, subst, _∙_}
-use mathlib.Core.Bool.{Bool, true, false, cond, not}
-use mathlib.Core.List.{List, [], _∷_, _++_, map, reverse, reverseAux}
-use mathlib.Core.Logic.{_⊎_, inl, inr, ⊎-elim}
-use Prim.Native.Nat.{ℕ, _+_, _≤_, _<_}
+use mathlib.Core.Bool.{true, false, cond, not}
+use mathlib.Core.List.{List, [], _∷_, _++_, map}
+use mathlib.Core.Logic.{_⊎_, ⊎-elim}
+use Prim.Native.Nat.{ℕ, _+_, _≤_}
 use native.Mathlib.Omega.{arith}
 use lib.Dec.{eqb, ltb}
 use lib.ListN.{take}
-use Rattle.std.specs.shelf.Lists.{All, kept-by, joined}
-use Rattle.std.proofs.shelf.Tests.{cond-true, cond-both, ne-eqb, not-from-false}
-use Rattle.train.specs.Line.{Way, forward, turned, other, Consist, masks, Coupled, Line, turn, flip}
+use Rattle.std.proofs.shelf.Tests.{cond-both, ne-eqb, not-from-false}
+use Rattle.train.specs.Line.{Way, forward, turned, other, masks, Coupled, Line, turn, flip}
 use Rattle.train.specs.Truth.{In, here, there}
 use Rattle.train.specs.Rules.{Different, uuids, IsConsist, IsLine, networks}
 use Rattle.train.specs.Rows.{left, reading, counted, Met, nodes-in, met-in, met, meetings, numbered, rows-met, rows}

@@ -7,7 +7,6 @@ use Prim.Native.Nat.{ℕ, zero, suc, min, max, _+_, _≤_, _<_}
 use native.Mathlib.Omega.{arith}
 use lib.Dec.{eqb}
 use lib.ListN.{length, take, drop, getD}
-use Rattle.std.specs.declared.option.Option.{Option}
 use Rattle.std.specs.declared.option.Option.the-variants.{Some, None}
 use Rattle.std.specs.shelf.Lists.{kept-by}
 use Rattle.std.proofs.shelf.Lists.{at-drop-more, at-drop-all, length-map, getD-map, map-more, take-all}
@@ -17,7 +16,7 @@ use Rattle.train.specs.Numbers.{climbs}
 use Rattle.train.specs.Rows.{Row, given}
 use Rattle.directory.specs.declared.row.Row as code
 use Rattle.directory.specs.Meaning.{blank, row-means, rows-mean}
-use Rattle.directory.specs.Asked.{first-where, carried, element, lowest, highest, nodes-of}
+use Rattle.directory.specs.Asked.{first-where, carried, element, lowest, nodes-of}
 use Rattle.directory.proofs.Climbs.{climbs-first}
 
 module _ (p : Row → Bool) (rows : List code.Row) (i : ℕ) where

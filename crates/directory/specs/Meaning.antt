@@ -1,5 +1,5 @@
 -- What rows, nodes and directories of the code mean. Assumes nothing.
-use mathlib.Core.Bool.{Bool, not}
+use mathlib.Core.Bool.{not}
 use mathlib.Core.List.{List, map}
 use Prim.Native.Nat.{ℕ}
 use lib.Dec.{eqb}
@@ -7,7 +7,7 @@ use lib.ListN.{take}
 use Rattle.std.specs.shelf.Lists.{kept-by}
 use Rattle.report.specs.Reports.{whole}
 use Rattle.train.specs.Line.{Way, forward, turned}
-use Rattle.train.specs.Rows.{Met, Row, rows-met}
+use Rattle.train.specs.Rows.{Met, Meeting, Row, rows-met}
 use Rattle.directory.specs.declared.row.Way as way
 use Rattle.directory.specs.declared.row.Way.the-variants.{Forward, Turned}
 use Rattle.directory.specs.declared.row.Row as row
@@ -35,6 +35,10 @@ blank = record { uuid = record { high = 0; low = 0 }; network = 0; subnet = 0; n
 -- its position is left out: rows do not depend on it
 abbrev pub met-means : MetNode → Met
 met-means n = record { uuid = whole (n .uuid); position = 0; mask = n .mask; way = way-means (n .way) }
+
+-- node n meets network c
+abbrev pub meeting : Met → ℕ → ℕ → Meeting
+meeting x n c = record { uuid = x .uuid; cn = c; node = n; way = x .way }
 
 -- the nodes that serve a network: no other has a number
 abbrev pub serving : List Met → List Met

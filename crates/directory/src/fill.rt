@@ -1,6 +1,6 @@
 //! Rows out of the nodes of a line, as its reading meets them.
 
-ghost use mathlib.Core.Bool.{true, _&&_};
+ghost use mathlib.Core.Bool.{_&&_};
 ghost use mathlib.Core.List.{[]};
 ghost use mathlib.Core.Path.{_≡_};
 ghost use Prim.Native.Nat.{_≤_};
@@ -8,8 +8,9 @@ ghost use lib.Dec.{eqb};
 ghost use lib.ListN.{replicate, take};
 ghost use Rattle.report.specs.Masks.{serves as serves-in};
 ghost use Rattle.report.specs.Reports.{whole};
+ghost use Rattle.train.specs.Rows.{row};
 ghost use Rattle.directory.specs.Numbering.{Nodes-run, Subnets-run};
-ghost use Rattle.directory.specs.Meaning.{blank, row-means, rows-mean, rows-of, rows-from};
+ghost use Rattle.directory.specs.Meaning.{blank, row-means, rows-mean, rows-of, met-means, meeting, rows-from};
 ghost use Rattle.directory.specs.Lookups.{Lookups};
 use crate::directory::Directory;
 use crate::row::BLANK;
@@ -26,6 +27,19 @@ impl MetNode {
         ensures { λ r. ⌜ r ≡ serves-in (now (self .entry) .mask) network ⌝ }
     {
         self.mask >> (network - 1) & 1 == 1
+    }
+
+    /// The row of a network that it serves.
+    fn row(&self, number: u8, network: u8, subnet: u8) -> Row
+        ensures { λ r. ⌜ row-means r ≡ row (meeting (met-means (now (self .entry))) number network) subnet ⌝ }
+    {
+        Row {
+            uuid: self.uuid,
+            network,
+            subnet,
+            node: number,
+            way: self.way,
+        }
     }
 }
 
@@ -86,13 +100,7 @@ fn fill(nodes: &[MetNode]) -> Draft
                 }
                 k += 1;
             };
-            draft.rows[draft.count] = Row {
-                uuid: node.uuid,
-                network,
-                subnet,
-                node: number,
-                way: node.way,
-            };
+            draft.rows[draft.count] = node.row(number, network, subnet);
             draft.count += 1;
         }
     }

@@ -1,3 +1,5 @@
+//! The two-unit train, the row limit, and the questions.
+
 use crate::*;
 use report::Uuid;
 use report::UuidDebug;

@@ -13,6 +13,7 @@ pub fn tell_report(rt: &LibcRuntime, words: &[u32]) -> io::Result<()> {
         Ok(report) => {
             tell_node(rt, &report)?;
             tell_masks(rt, &report)?;
+            print!(rt, "  words:")?;
             tell_words(rt, &report)
         }
         Err(fault) => {
@@ -60,18 +61,18 @@ fn tell_masks(rt: &LibcRuntime, report: &Report) -> io::Result<()> {
     Ok(())
 }
 
-fn tell_words(rt: &LibcRuntime, report: &Report) -> io::Result<()> {
+/// The words of a report on one line.
+pub fn tell_words(rt: &LibcRuntime, report: &Report) -> io::Result<()> {
     let mut words = [0u32; 17];
     match report.write(&mut words) {
         Ok(count) => {
-            print!(rt, "  words:")?;
             for word in words.iter().take(count) {
                 print!(rt, " {word:08x}")?;
             }
             println!(rt, "")
         }
-        Err(WriteFault::Field) => println!(rt, "report: refused 17 Field"),
-        Err(WriteFault::Short) => println!(rt, "report: refused 1 Short"),
+        Err(WriteFault::Field) => println!(rt, " refused 17 Field"),
+        Err(WriteFault::Short) => println!(rt, " refused 1 Short"),
     }
 }
 

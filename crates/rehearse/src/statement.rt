@@ -3,6 +3,11 @@
 use crate::complaint::Complaint;
 use crate::number::hex;
 use crate::number::push_bytes;
+use composition::Consist;
+use composition::Node;
+use directory::Way;
+use report::Mac;
+use report::Uuid;
 use std::alloc::AllocError;
 use std::alloc::Global;
 use std::str::SplitWhitespace;
@@ -15,6 +20,12 @@ pub enum Statement {
     Report(Vec<u32>),
     Counter(Vec<u8>),
     Hello(Vec<u8>),
+    /// One more consist at the right end of the described train.
+    Consist(Consist),
+    /// The described train is forgotten.
+    Uncouple,
+    /// The described train is told.
+    Train,
 }
 
 /// What a line says, or why it is no statement; want of memory ends the program.
@@ -38,6 +49,9 @@ impl Statement {
                 Ok(bytes) => Ok(Ok(Statement::Hello(bytes))),
                 Err(complaint) => Ok(Err(complaint)),
             },
+            Some("consist") => Ok(consist(tokens)),
+            Some("uncouple") => Ok(alone(tokens, Statement::Uncouple)),
+            Some("train") => Ok(alone(tokens, Statement::Train)),
             Some(other) => Ok(Err(Complaint::Unknown(other))),
         }
     }
@@ -62,4 +76,67 @@ fn bytes<'a>(heap: Global, tokens: SplitWhitespace<'a>) -> Parsed<'a, Vec<u8>> {
         }
     }
     Ok(Ok(bytes))
+}
+
+/// A statement of one word.
+fn alone<'a>(
+    mut tokens: SplitWhitespace<'a>,
+    statement: Statement,
+) -> Result<Statement, Complaint<'a>> {
+    match tokens.next() {
+        None => Ok(statement),
+        Some(extra) => Err(Complaint::Extra(extra)),
+    }
+}
+
+fn consist<'a>(mut tokens: SplitWhitespace<'a>) -> Result<Statement, Complaint<'a>> {
+    let Some(name) = tokens.next() else {
+        return Err(Complaint::Missing("a UUID"));
+    };
+    let uuid = uuid(name)?;
+    let way = match tokens.next() {
+        Some("forward") => Way::Forward,
+        Some("turned") => Way::Turned,
+        Some(other) => return Err(Complaint::NotAWay(other)),
+        None => return Err(Complaint::Missing("forward or turned")),
+    };
+    let mut nodes = [Node { mask: 0, mac: None }; 4];
+    let mut count: u8 = 0;
+    for token in tokens {
+        if count >= 4 {
+            return Err(Complaint::FifthNode(token));
+        }
+        nodes[usize::from(count)] = node(token)?;
+        count += 1;
+    }
+    Ok(Statement::Consist(Consist {
+        uuid,
+        way,
+        count,
+        nodes,
+    }))
+}
+
+fn uuid(token: &str) -> Result<Uuid, Complaint<'_>> {
+    let number = hex(token, u128::MAX)?;
+    Ok(Uuid {
+        high: (number >> 64) as u64,
+        low: (number & u128::from(u64::MAX)) as u64,
+    })
+}
+
+/// `MASK:MAC` of a node that is awake, `MASK:asleep` of another.
+fn node(token: &str) -> Result<Node, Complaint<'_>> {
+    let Some((mask, mac)) = token.split_once(':') else {
+        return Err(Complaint::NotANode(token));
+    };
+    let mask = hex(mask, 0xFF)? as u8;
+    if mac == "asleep" {
+        return Ok(Node { mask, mac: None });
+    }
+    let number = hex(mac, u128::from(u64::MAX))?;
+    Ok(Node {
+        mask,
+        mac: Some(Mac(number as u64)),
+    })
 }

@@ -1,6 +1,4 @@
-use mathlib.Core.Bool.{_&&_}
 use mathlib.Core.Path.{_≡_}
-use lib.Dec.{eqb}
 use lib.ListN.{drop}
 use Rattle.report.specs.Reports.{whole}
 use Rattle.directory.specs.Meaning.{rows-mean}

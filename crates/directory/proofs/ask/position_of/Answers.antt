@@ -1,7 +1,7 @@
 use native.Mathlib.Omega.{arith}
 use Rattle.report.specs.Reports.{whole}
 use Rattle.directory.specs.Meaning.{rows-mean}
-use Rattle.directory.specs.Asked.{lowest, highest, nodes-of}
+use Rattle.directory.specs.Asked.{nodes-of}
 use Rattle.directory.proofs.Climbs.{highest-above}
 use Rattle.directory.proofs.Searches.{lowest-below, lowest-some}
 use Rattle.directory.proofs.ask.position_of.Needs as need

@@ -1,9 +1,9 @@
-use mathlib.Core.Path.{_≡_, refl, sym, ap, _∙_}
+use mathlib.Core.Path.{sym, ap, _∙_}
 use Prim.Native.Nat.{_-_}
 use native.Mathlib.Omega.{arith}
 use lib.ListN.{getD, take}
 use Rattle.std.proofs.shelf.Lists.{take-all}
-use Rattle.counter.specs.Crc.{all-ones, bits, sent, remainder-after, reflected, register-after}
+use Rattle.counter.specs.Crc.{all-ones, sent, remainder-after, reflected, register-after}
 use Rattle.train.specs.Bytes.{row-bytes, rows-bytes}
 use Rattle.directory.specs.Meaning.{blank, row-means, rows-mean}
 use Rattle.directory.proofs.Octets.{rows-bytes-more}

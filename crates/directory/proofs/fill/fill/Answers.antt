@@ -1,14 +1,12 @@
-use mathlib.Core.Path.{_≡_, refl, sym, ap, _∙_}
-use mathlib.Core.Logic.{inl, inr}
+use mathlib.Core.Path.{_≡_, sym, ap, _∙_}
 use native.Mathlib.Omega.{arith}
-use borrow.Author.Needs.{needs}
-use lib.ListN.{getD, drop, take, length}
-use Prim.Native.Nat.{ℕ, _+_, _-_, _≤_, _<_, max}
+use lib.ListN.{getD, take}
+use Prim.Native.Nat.{_+_, _-_, _<_, max}
 use Rattle.std.specs.declared.option.Option.the-variants.{Some, None}
 use Rattle.report.specs.Reports.{whole}
-use Rattle.train.specs.Rows.{given, rows-met}
-use Rattle.directory.specs.Meaning.{met-means, rows-mean}
-use Rattle.directory.proofs.Filling.{high-few, top-few, round-none, round-not, round-begins, round-ends, round-all, turn-not, turn-put, held-full, nodes-run, subnets-run, no-node, behind, left-at, look-past, look-found, look-none, given-low}
+use Rattle.train.specs.Rows.{given}
+use Rattle.directory.specs.Meaning.{rows-mean}
+use Rattle.directory.proofs.Filling.{high-few, top-few, round-not, round-begins, round-ends, round-all, turn-not, turn-put, held-full, nodes-run, subnets-run, no-node, look-past, look-found, look-none, given-low}
 use Rattle.directory.proofs.Subnets.{or-next}
 use Rattle.directory.proofs.Places.{lookups}
 use Rattle.directory.proofs.fill.fill.Needs as need
@@ -41,11 +39,10 @@ pub loop-k-again : need.loop-k-again
 loop-k-again c =
     let l = c .loop-network in
     let h = l .inv .held in
-    let there : c .loop-k .k < l .draft .count = omega (arith, c .loop-k .inv .0) in (
-      omega arith,
-      c .loop-k .inv .1,
-      look-past _ _ (c .loop-k .k) (l .draft .count) (l .draft .rows) (h .long) (h .few) there (sym (c .if-is-of .ensures tt)) ∙ c .loop-k .inv .2,
-    )
+    let there : c .loop-k .k < l .draft .count = omega (arith, c .loop-k .inv .0) in
+    let u = whole (getD (c .args .nodes .now) (c .rows .node-index) no-node .uuid) in
+    let past = look-past u (l .network) (c .loop-k .k) (l .draft .count) (l .draft .rows) (h .long) (h .few) there (c .if-is-of .ensures tt) in
+    (omega arith, c .loop-k .inv .1, past ∙ c .loop-k .inv .2)
 
 pub loop-network-again : need.loop-network-again
 loop-network-again c =
@@ -68,7 +65,7 @@ loop-network-again c =
       | else-k-draft·then-is-of w ↦
           let there : c .loop-k .k < count = omega (arith, w .if-k-draft .left, c .loop-k .inv .0) in
           let found : given u (l .network) rs ≡ Some s =
-          sym (c .loop-k .inv .2) ∙ look-found u (l .network) (c .loop-k .k) count rows (h .long) (h .few) there (sym (w .if-is-of .ensures tt))
+          sym (c .loop-k .inv .2) ∙ look-found u (l .network) (c .loop-k .k) count rows (h .long) (h .few) there (w .if-is-of .ensures tt)
           ∙ ap (λ n. Some n) (sym (w .subnet-is))
           in (
             ap (λ o. or-next (l .top) o) (sym found),
@@ -77,7 +74,7 @@ loop-network-again c =
     ]
     in
     rw (met .1)
-    (turn-put _ _ _ _ (l .network) rows count (l .top) t _ s (omega arith) (sym (c .if-not-serves .ensures tt)) (omega (arith, h .few)) refl (met .0))
+    (turn-put _ _ _ _ (l .network) rows count (l .top) t _ s (omega arith) (sym (c .if-not-serves .ensures tt)) (omega (arith, h .few)) (c .row .ensures) (met .0))
 
 pub rows-again : need.rows-again
 rows-again c =
