@@ -147,13 +147,7 @@ fn each_rule_on_a_consist_is_named_with_its_place() -> Result<(), Fail> {
 #[test]
 fn each_rule_on_the_line_is_named() -> Result<(), Fail> {
     let twice = [A, A];
-    let same_mac = [
-        A,
-        Consist {
-            uuid: B.uuid,
-            ..A
-        },
-    ];
+    let same_mac = [A, Consist { uuid: B.uuid, ..A }];
     check_eq(checked(&twice[0..0]), Err(LineFault::NoConsist))?;
     check_eq(checked(&twice), Err(LineFault::UuidTwice(1)))?;
     check_eq(checked(&same_mac), Err(LineFault::MacTwice(1)))
