@@ -1,0 +1,10 @@
+pub mod Found
+pub mod Steps
+pub mod Chain
+pub mod Followed
+pub mod Reached
+pub mod Loose
+pub mod Wake
+pub mod Assembling
+pub mod Assembled
+pub mod Answers
