@@ -14,7 +14,7 @@ use Rattle.std.specs.declared.option.Option.{Option}
 use Rattle.std.specs.declared.option.Option.the-variants.{Some, None}
 use Rattle.std.specs.declared.result.Result.{Result}
 use Rattle.std.specs.declared.result.Result.the-variants.{Ok, Err}
-use Rattle.std.specs.Options.{mapped, isSome}
+use Rattle.std.specs.Options.{mapped}
 use Rattle.report.specs.declared.Report as code
 use Rattle.report.specs.Reports.{Report}
 use Rattle.report.specs.Masks.{together}
@@ -26,7 +26,7 @@ use Rattle.train.proofs.Reading.{met-same}
 use Rattle.train.proofs.Totals.{total-same, as-many-masks}
 use Rattle.directory.specs.declared.directory.Directory.{Directory}
 use Rattle.directory.specs.Meaning.{serving}
-use Rattle.fitting.specs.Neighbours.{place-of, is-some, loose}
+use Rattle.fitting.specs.Neighbours.{is-held, loose}
 use Rattle.fitting.specs.Walk.{stands, steps-of, if-some, Step, chain-of}
 use Rattle.fitting.specs.Assemble.{assemble}
 use Rattle.fitting.specs.Answer.{mute, loosely, split, mixed, long, is-within, shown-rows, line-answer, chain-answer, firm-answer, answer}
@@ -72,24 +72,20 @@ line-none None e = refl
 line-none (Some l) e = absurd (let z : _≡_ {A = ℕ} 0 1 = cc in omega arith)
 
 -- the checks in their order
-some-same : {A : Type 0} (o : Option A) → is-some o ≡ isSome o
-some-same None = refl
-some-same (Some x) = refl
+module _ (own : ℕ) (hs : List Report) where
+  held-is : (b : Bool) → b ≡ is-held own hs → cond b (firm-answer hs (loose hs)) (Err mute) ≡ answer own hs
+  held-is b e = ap (λ v. cond v (firm-answer hs (loose hs)) (Err mute)) e
 
-module _ (own : ℕ) (hs : List Report) (o : Option ℕ) (at : o ≡ place-of own 0 hs) where
-  held-is : (b : Bool) → isSome o ≡ b → cond b (firm-answer hs (loose hs)) (Err mute) ≡ answer own hs
-  held-is b e = ap (λ v. cond v (firm-answer hs (loose hs)) (Err mute)) (sym e ∙ sym (some-same o) ∙ ap is-some at)
-
-  pub says-mute : isSome o ≡ false → Err mute ≡ answer own hs
+  pub says-mute : false ≡ is-held own hs → Err mute ≡ answer own hs
   says-mute e = held-is false e
 
-  pub says-loose : isSome o ≡ true → (m : ℕ) → Some m ≡ loose hs → Err loosely ≡ answer own hs
+  pub says-loose : true ≡ is-held own hs → (m : ℕ) → Some m ≡ loose hs → Err loosely ≡ answer own hs
   says-loose e m l = ap (firm-answer hs) l ∙ held-is true e
 
-  pub says-split : isSome o ≡ true → None ≡ loose hs → None ≡ steps-of hs → Err split ≡ answer own hs
+  pub says-split : true ≡ is-held own hs → None ≡ loose hs → None ≡ steps-of hs → Err split ≡ answer own hs
   says-split e l s = ap (λ v. chain-answer (if-some v (λ ss. Some (map (stands hs) ss)))) s ∙ ap (firm-answer hs) l ∙ held-is true e
 
-  pub says-chain : isSome o ≡ true → None ≡ loose hs → (ss : List Step) → Some ss ≡ steps-of hs → line-answer (assemble (map (stands hs) ss)) ≡ answer own hs
+  pub says-chain : true ≡ is-held own hs → None ≡ loose hs → (ss : List Step) → Some ss ≡ steps-of hs → line-answer (assemble (map (stands hs) ss)) ≡ answer own hs
   says-chain e l ss s = ap (λ v. chain-answer (if-some v (λ ss. Some (map (stands hs) ss)))) s ∙ ap (firm-answer hs) l ∙ held-is true e
 
 -- no more than 63 reports are held

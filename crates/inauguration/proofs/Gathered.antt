@@ -41,7 +41,7 @@ use Rattle.inauguration.specs.declared.consist.Consist.{Consist}
 use Rattle.inauguration.specs.Meaning.{all-mean}
 use Rattle.inauguration.specs.declared.chain.Chain.{Chain}
 use Rattle.inauguration.specs.Laid.{steps, Lies-in}
-use Rattle.inauguration.specs.Consists.{consist-of, masks-of, coupled, line-of}
+use Rattle.inauguration.specs.Consists.{consist-of, masks-of, coupled, line-of, goes}
 use Rattle.inauguration.proofs.Scans.{getD-means}
 use Rattle.inauguration.specs.Gathered.{chain-nodes, outlines-from}
 
@@ -213,10 +213,6 @@ length-stored c (x ∷ xs) = subst (λ ys. length ys ≤ length (x ∷ xs) + 1) 
     go Equal h = omega arith
     go Greater h = omega arith
 
--- whether the node of c goes on with the consist of m, as the code tells
-abbrev pub code-goes : Consist → Consist → Bool
-code-goes c m = same-masks (masks-of c) (masks-of m) && same-way (way-means (c .way)) (way-means (m .way)) && behind (way-means (m .way)) (m .last) (c .last)
-
 module _ (xs : List Awake) (k : ℕ) (live slots row : List Consist) (len : ℕ) (g : Gathered xs k live slots row len)
     (c : Consist) (x : Awake) (within : k < length xs) (few-nodes : length xs ≤ 63) (t : Tells c (getD xs k x)) where
   abbrev a : Awake
@@ -332,14 +328,14 @@ module _ (xs : List Awake) (k : ℕ) (live slots row : List Consist) (len : ℕ)
         some-is : {y z : Consist} → Some y ≡ Some z → y ≡ z
         some-is e = cc
 
-    goes-same : v .met ≡ m → code-goes c m ≡ goes-on b a
+    goes-same : v .met ≡ m → goes c m ≡ goes-on b a
     goes-same e =
         let p : masks-of m ≡ masks (b .growing .consist) = ap masks-of (sym e) ∙ v .masks in
         let w : way-means (m .way) ≡ b .growing .way = ap (λ n. way-means (n .way)) (sym e) ∙ v .way in
         let l : m .last ≡ b .last = ap (λ n. n .last) (sym e) ∙ v .last in
         ap₂ _&&_ (ap₂ _&&_ (ap₂ same-masks (t .masks) p) (ap₂ same-way (t .way) w)) (ap₂ (λ n d. behind n d (c .last)) w l ∙ ap (behind (b .growing .way) (b .last)) (t .last))
 
-    grows : whole u ≡ whole (c .uuid) → code-goes c m ≡ true → put b a ≡ Some (grown b a)
+    grows : whole u ≡ whole (c .uuid) → goes c m ≡ true → put b a ≡ Some (grown b a)
     grows e h =
         cond-true _ _ _ (eq-eqb _ _ (sym (t .uuid) ∙ sym e ∙ v .uuid)) ∙ cond-true _ _ _ (sym (goes-same (same-met e .0)) ∙ h)
 
@@ -347,7 +343,7 @@ module _ (xs : List Awake) (k : ℕ) (live slots row : List Consist) (len : ℕ)
     known-met =
         ap (λ n. among n (uuids (all-of b))) (sym (t .uuid)) ∙ ap (λ o. among (whole (c .uuid)) (uuids-of o)) (sym is-part) ∙ sym (g .known (c .uuid) (t .halves)) ∙ ap is-some at
 
-    stops : (whole u ≡ whole (c .uuid) → ⊥) ⊎ (code-goes c m ≡ false) → put b a ≡ None
+    stops : (whole u ≡ whole (c .uuid) → ⊥) ⊎ (goes c m ≡ false) → put b a ≡ None
     stops h = ⊎-elim (λ d. other d) (λ n. ⊎-elim (λ e. mixed (eqb-true _ _ e) n) (λ e. other (eqb-false _ _ e)) (cases-bool (eqb (whole u) (whole (c .uuid))))) h
       where
         other : (whole u ≡ whole (c .uuid) → ⊥) → put b a ≡ None
@@ -357,7 +353,7 @@ module _ (xs : List Awake) (k : ℕ) (live slots row : List Consist) (len : ℕ)
             cond-false (eqb (a .uuid) (b .growing .consist .uuid)) (cond (goes-on b a) (Some (grown b a)) None) (cond (among (a .uuid) (uuids (b .finished))) None (Some (next b a))) away
             ∙ cond-true (among (a .uuid) (uuids (b .finished))) None (Some (next b a)) before
 
-        mixed : whole u ≡ whole (c .uuid) → code-goes c m ≡ false → put b a ≡ None
+        mixed : whole u ≡ whole (c .uuid) → goes c m ≡ false → put b a ≡ None
         mixed e n =
             cond-true (eqb (a .uuid) (b .growing .consist .uuid)) (cond (goes-on b a) (Some (grown b a)) None) (cond (among (a .uuid) (uuids (b .finished))) None (Some (next b a)))
             (eq-eqb (a .uuid) (b .growing .consist .uuid) (sym (t .uuid) ∙ sym e ∙ v .uuid)) ∙ cond-false (goes-on b a) (Some (grown b a)) None (sym (goes-same (same-met e .0)) ∙ n)
@@ -365,7 +361,7 @@ module _ (xs : List Awake) (k : ℕ) (live slots row : List Consist) (len : ℕ)
     stopped : put b a ≡ None → None ≡ assemble xs
     stopped e = ap {A = Option Part} (λ o. elim o [ Some p ↦ put-all p (drop (k + 1) xs) | None ↦ None ]) (sym e) ∙ steps-on
 
-    gone-on : (d : ℕ) → len ≡ suc d → ((y : Consist) → getD row d y .uuid ≡ u) → whole u ≡ whole (c .uuid) → code-goes c m ≡ true
+    gone-on : (d : ℕ) → len ≡ suc d → ((y : Consist) → getD row d y .uuid ≡ u) → whole u ≡ whole (c .uuid) → goes c m ≡ true
         → (left : List Consist) → length left ≡ 63 → Gathered xs (k + 1) (stored order under c live) left row len
     gone-on d is-len at-row e h left long =
         let us = grown-uuids b in
@@ -411,7 +407,7 @@ module _ (xs : List Awake) (k : ℕ) (live slots row : List Consist) (len : ℕ)
   pub last-place : (m : Consist) → found order under (c .uuid) live ≡ Some m → 1 ≤ len
   last-place m e = let p = met-part m e in omega (arith, p .3 .1)
 
-  pub gathered-on : (m y : Consist) → found order under (c .uuid) live ≡ Some m → whole (getD row (len - 1) y .uuid) ≡ whole (c .uuid) → code-goes c m ≡ true
+  pub gathered-on : (m y : Consist) → found order under (c .uuid) live ≡ Some m → whole (getD row (len - 1) y .uuid) ≡ whole (c .uuid) → goes c m ≡ true
       → (more left : List Consist) → more ≡ store-keeps order under c (length slots) live → length left ≡ 63 → Gathered xs (k + 1) more left row len
   gathered-on m y e s h more left is-stored long =
       let p = met-part m e in
@@ -422,7 +418,7 @@ module _ (xs : List Awake) (k : ℕ) (live slots row : List Consist) (len : ℕ)
       (gone-on (p .0) m (getD row d y .uuid) (p .1) (p .2) (p .3 .2 y) e d (p .3 .1) (λ z. ap (λ n. n .uuid) (getD-default row d z y inside))
       (ap (λ n. whole (getD row n y .uuid)) (sym at-d) ∙ s) h left long)
 
-  pub gathered-stop : (m y : Consist) → found order under (c .uuid) live ≡ Some m → (whole (getD row (len - 1) y .uuid) ≡ whole (c .uuid) → ⊥) ⊎ (code-goes c m ≡ false)
+  pub gathered-stop : (m y : Consist) → found order under (c .uuid) live ≡ Some m → (whole (getD row (len - 1) y .uuid) ≡ whole (c .uuid) → ⊥) ⊎ (goes c m ≡ false)
       → None ≡ outlines-from xs
   gathered-stop m y e h =
       let p = met-part m e in
@@ -518,7 +514,7 @@ module _ (held : List report.Report) (h : Chain) (k : ℕ) (live slots row : Lis
     pub has-last : (m : Consist) → found order under (c .uuid) live ≡ Some m → 1 ≤ len
     has-last m e = last-place (chain-nodes held h) k live slots row len g c no-node within few-nodes tells m e
 
-    pub at-stop : (m y : Consist) → found order under (c .uuid) live ≡ Some m → (whole (getD row (len - 1) y .uuid) ≡ whole (c .uuid) → ⊥) ⊎ (code-goes c m ≡ false)
+    pub at-stop : (m y : Consist) → found order under (c .uuid) live ≡ Some m → (whole (getD row (len - 1) y .uuid) ≡ whole (c .uuid) → ⊥) ⊎ (goes c m ≡ false)
         → None ≡ outlines-from (chain-nodes held h)
     at-stop m y e o = gathered-stop (chain-nodes held h) k live slots row len g c no-node within few-nodes tells m y e o
 
@@ -529,10 +525,21 @@ module _ (held : List report.Report) (h : Chain) (k : ℕ) (live slots row : Lis
         → Gathered (chain-nodes held h) (k + 1) more left (set row len c) (len + 1)
     at-new = gathered-new (chain-nodes held h) k live slots row len g c no-node within few-nodes tells
 
-    pub at-on : (m y : Consist) → found order under (c .uuid) live ≡ Some m → whole (getD row (len - 1) y .uuid) ≡ whole (c .uuid) → code-goes c m ≡ true
+    pub at-on : (m y : Consist) → found order under (c .uuid) live ≡ Some m → whole (getD row (len - 1) y .uuid) ≡ whole (c .uuid) → goes c m ≡ true
         → (more left : List Consist) → more ≡ store-keeps order under c (length slots) live → length left ≡ 63 → Gathered (chain-nodes held h) (k + 1) more left row len
     at-on = gathered-on (chain-nodes held h) k live slots row len g c no-node within few-nodes tells
 
 -- what stands past the end of a row of consists
 abbrev pub no-consist : Consist
 no-consist = record { uuid = record { high = 0; low = 0 }; way = Forward; nodes = 0; masks = []; last = 0 }
+
+-- what a test of a UUID and another test tell
+pub fails : (m n : ℕ) (b : Bool) → eqb m n && b ≡ false → (m ≡ n → ⊥) ⊎ (b ≡ false)
+fails m n b e = go (eqb m n) refl e
+  where
+    go : (a : Bool) → eqb m n ≡ a → a && b ≡ false → (m ≡ n → ⊥) ⊎ (b ≡ false)
+    go true k e = inr e
+    go false k e = inl (eqb-false m n k)
+
+pub holds : (m n : ℕ) (b : Bool) → eqb m n && b ≡ true → (m ≡ n) × (b ≡ true)
+holds m n b e = let p = and-parts (eqb m n) b e in (eqb-true m n (p .0), p .1)

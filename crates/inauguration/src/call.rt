@@ -18,8 +18,8 @@ use crate::chain::find_chain;
 use crate::gather::Consists;
 use crate::gather::gather;
 use crate::limits::is_within;
+use crate::neighbours::is_held;
 use crate::neighbours::loose;
-use crate::neighbours::place_of;
 use crate::reading::nodes_of;
 use crate::reading::read;
 use crate::refused::Refused;
@@ -57,7 +57,7 @@ fn decide(own: Mac, held: &[Report]) -> Result<Directory, Refused>
     ensures loose { λ r. ⌜ Names-loose (held-reports (now (held .entry))) r ⌝ }
 {
     let held = &held[..held.len().min(ROOM)];
-    if place_of(held, own).is_none() {
+    if !is_held(held, own) {
         return Err(Refused::Mute);
     }
     if let Some(mac) = loose(held) {

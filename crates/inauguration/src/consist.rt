@@ -1,14 +1,12 @@
 //! A consist as the chain has met it, kept under its UUID.
 
 ghost use mathlib.Core.Path.{_≡_};
-ghost use mathlib.Core.Bool.{_&&_};
 ghost use Prim.Native.Nat.{_^_, _<_, _≤_};
 ghost use lib.Dec.{eqb};
 ghost use lib.ListN.{length, take};
 ghost use Rattle.report.specs.Reports.{whole};
-ghost use Rattle.directory.specs.Meaning.{way-means};
-ghost use Rattle.fitting.specs.Assemble.{same-masks, same-way, behind};
-ghost use Rattle.inauguration.specs.Consists.{consist-of, masks-of};
+ghost use Rattle.fitting.specs.Assemble.{same-masks};
+ghost use Rattle.inauguration.specs.Consists.{consist-of, masks-of, goes};
 use directory::Way;
 use keyed::Record;
 use report::Report;
@@ -84,7 +82,7 @@ impl Consist {
 
     /// Whether `next`, met next, has the same masks and way round, and its position is met behind the last one.
     pub(crate) fn goes_on(&self, next: &Consist) -> bool
-        ensures { λ r. ⌜ r ≡ same-masks (masks-of (now (next .entry))) (masks-of (now (self .entry))) && same-way (way-means (now (next .entry) .way)) (way-means (now (self .entry) .way)) && behind (way-means (now (self .entry) .way)) (now (self .entry) .last) (now (next .entry) .last) ⌝ }
+        ensures { λ r. ⌜ r ≡ goes (now (next .entry)) (now (self .entry)) ⌝ }
     {
         if !same_masks(next.masks(), self.masks()) {
             return false;

@@ -1,10 +1,14 @@
 //! The consists of the chain, gathered under their UUIDs.
 
+ghost use mathlib.Core.Bool.{_&&_};
 ghost use mathlib.Core.Path.{_≡_};
 ghost use Prim.Native.Nat.{_≤_};
+ghost use lib.Dec.{eqb};
 ghost use lib.ListN.{length};
 ghost use Rattle.std.specs.Options.{mapped};
+ghost use Rattle.report.specs.Reports.{whole};
 ghost use Rattle.train.specs.Agreement.{skeleton};
+ghost use Rattle.inauguration.specs.Consists.{goes};
 ghost use Rattle.inauguration.specs.Laid.{Lies-in};
 ghost use Rattle.inauguration.specs.Gathered.{gathered-line, chain-nodes, outlines-from, Few};
 use crate::chain::Chain;
@@ -22,6 +26,13 @@ use report::UuidKey;
 pub struct Consists {
     pub row: [Consist; ROOM],
     pub len: usize,
+}
+
+/// Whether `next` has the UUID of the consist met last and goes on with it, where `met` is what is kept under its UUID.
+fn continues(current: &Consist, met: &Consist, next: &Consist) -> bool
+    ensures { λ r. ⌜ r ≡ eqb (whole (now (current .entry) .uuid)) (whole (now (next .entry) .uuid)) && goes (now (next .entry)) (now (met .entry)) ⌝ }
+{
+    same_uuid(current.uuid, next.uuid) && met.goes_on(next)
 }
 
 /// The consists along the chain, if its nodes are those of a line. A UUID that was met before must be that of the consist
@@ -45,8 +56,7 @@ pub(crate) fn gather(held: &[Report], chain: &Chain) -> Option<Consists>
                 consists.len += 1;
             }
             Some(met) => {
-                let current = consists.row[consists.len - 1];
-                if !same_uuid(current.uuid, next.uuid) || !met.goes_on(&next) {
+                if !continues(&consists.row[consists.len - 1], &met, &next) {
                     return None;
                 }
             }

@@ -1,7 +1,9 @@
 //! The three limits: nodes, networks and set mask bits.
 
+ghost use mathlib.Core.Bool.{_&&_};
 ghost use mathlib.Core.Path.{_≡_};
 ghost use Prim.Native.Nat.{_≤_};
+ghost use lib.Dec.{leb};
 ghost use lib.ListN.{length};
 ghost use Rattle.report.specs.Masks.{together as together-in};
 ghost use Rattle.train.specs.Rules.{set-bits};
@@ -41,6 +43,12 @@ fn set_bits(masks: &[u8]) -> u32
     bits
 }
 
+fn are_within(nodes: u32, networks: u32, bits: u32) -> bool
+    ensures { λ r. ⌜ r ≡ leb nodes 63 && leb networks 63 && leb bits 128 ⌝ }
+{
+    nodes <= NODES && networks <= NETWORKS && bits <= BITS
+}
+
 /// Whether the line of these consists is within the limits.
 pub(crate) fn is_within(consists: &[Consist]) -> bool
     requires { ⌜ length (now consists) ≤ 63 ⌝ }
@@ -55,5 +63,5 @@ pub(crate) fn is_within(consists: &[Consist]) -> bool
         networks += together(masks).count_ones();
         bits += set_bits(masks);
     }
-    nodes <= NODES && networks <= NETWORKS && bits <= BITS
+    are_within(nodes, networks, bits)
 }

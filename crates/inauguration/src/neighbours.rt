@@ -6,7 +6,7 @@ ghost use Prim.Native.Nat.{_<_};
 ghost use lib.ListN.{length};
 ghost use Rattle.std.specs.Options.{Cases as BySome, mapped};
 ghost use Rattle.report.specs.Reports.{means};
-ghost use Rattle.fitting.specs.Neighbours.{place-of as place-in, names as names-in, is-backed, is-firm, loose as loose-in};
+ghost use Rattle.fitting.specs.Neighbours.{place-of as place-in, is-held as held-in, names as names-in, is-backed, is-firm, loose as loose-in};
 ghost use Rattle.inauguration.specs.Meaning.{all-mean};
 use report::Mac;
 use report::Report;
@@ -22,6 +22,13 @@ pub(crate) fn place_of(held: &[Report], mac: Mac) -> Option<usize>
         }
     }
     None
+}
+
+/// Whether a report is held under this MAC.
+pub(crate) fn is_held(held: &[Report], mac: Mac) -> bool
+    ensures { λ r. ⌜ r ≡ held-in (mac .0) (all-mean (now (held .entry))) ⌝ }
+{
+    place_of(held, mac).is_some()
 }
 
 /// Whether `report` names this MAC on a side.

@@ -82,6 +82,13 @@ fn mask_met(masks: &[u8], way: Way, i: usize) -> u8
     }
 }
 
+/// Whether the end with the consist `left` is read first, of a line that ends with `right`.
+fn is_first(left: &Consist, right: &Consist) -> bool
+    ensures { λ r. ⌜ r ≡ ltb (whole (now (left .entry) .uuid)) (whole (now (right .entry) .uuid)) ⌝ }
+{
+    is_less(left.uuid, right.uuid)
+}
+
 /// A line of one consist is read forward, any other from the end whose outermost consist has the smaller UUID.
 pub(crate) fn read(consists: &Consists) -> Consists
     requires { ⌜ now consists .len ≤ 63 ⌝ ∗ ⌜ length (now consists .row) ≡ 63 ⌝ }
@@ -99,7 +106,7 @@ pub(crate) fn read(consists: &Consists) -> Consists
         alone.row[0] = first;
         return alone;
     }
-    if is_less(first.uuid, consists.row[len - 1].uuid) {
+    if is_first(&first, &consists.row[len - 1]) {
         *consists
     } else {
         flip(consists)

@@ -1,32 +1,27 @@
 use mathlib.Core.Path.{_≡_, sym, ap, subst, _∙_}
-use mathlib.Core.Bool.{not}
-use mathlib.Core.Logic.{inl, inr}
 use Prim.Native.Nat.{_≤_, _+_}
 use native.Mathlib.Omega.{arith}
 use lib.ListN.{length}
 use denote.Ref.{now}
-use Rattle.std.proofs.shelf.Tests.{eqb-true, eqb-false}
 use Rattle.keyed.specs.Table.{live}
 use Rattle.inauguration.specs.declared.gather.Consists.{Consists}
 use Rattle.inauguration.specs.Gathered.{chain-nodes}
-use Rattle.inauguration.proofs.Scans.{code-blank, not-true, not-false}
-use Rattle.inauguration.proofs.Gathered.{Gathered, gathered-start, at-none, at-some, has-last, at-stop, at-leaves, at-new, at-on, no-consist}
+use Rattle.inauguration.proofs.Scans.{code-blank}
+use Rattle.inauguration.proofs.Gathered.{Gathered, gathered-start, at-none, at-some, has-last, at-stop, at-leaves, at-new, at-on, no-consist, fails, holds}
 use Rattle.inauguration.proofs.gather.gather.Needs as need
-use Rattle.inauguration.proofs.gather.gather.Needs.{in-None, in-Some·else-not-same-uuid·else-not-goes-on, then-not-same-uuid·by·then-not-same-uuid, then-not-same-uuid·by·else-not-same-uuid·then-not-goes-on}
+use Rattle.inauguration.proofs.gather.gather.Needs.{in-None, in-Some·else-not-continues}
 
 pub loop-k-holds : need.loop-k-holds
 loop-k-holds c = gathered-start _ _ _ _ (c .new-table .ensures .live) (ap length (c .new-table .ensures .slots)) (omega arith)
 
-pub sub-current : need.sub-current
-sub-current c = has-last (c .args .held .now) (c .args .chain .now) _ _ _ _ _ (c .loop-k .inv) (c .pre .0) (c .pre .1) (c .of-next .result) _ code-blank (c .loop-k-test .taken) (c .of-next .ensures .fields) (c .of-next .ensures .high) (c .of-next .ensures .low) (c .in-Some .met) (sym (c .in-Some .ensures tt))
+pub sub-consists : need.sub-consists
+sub-consists c = has-last (c .args .held .now) (c .args .chain .now) _ _ _ _ _ (c .loop-k .inv) (c .pre .0) (c .pre .1) (c .of-next .result) _ code-blank (c .loop-k-test .taken) (c .of-next .ensures .fields) (c .of-next .ensures .high) (c .of-next .ensures .low) (c .in-Some .met) (sym (c .in-Some .ensures tt))
 
-pub returns-then-not-same-uuid : need.returns-then-not-same-uuid
-returns-then-not-same-uuid c =
-    let stop = at-stop (c .args .held .now) (c .args .chain .now) _ _ _ _ _ (c .loop-k .inv) (c .pre .0) (c .pre .1) (c .of-next .result) _ code-blank (c .loop-k-test .taken) (c .of-next .ensures .fields) (c .of-next .ensures .high) (c .of-next .ensures .low) (c .in-Some .met) no-consist (sym (c .in-Some .ensures tt)) in
-    elim (c .then-not-same-uuid .came) [
-      | then-not-same-uuid·by·then-not-same-uuid w ↦ record { outlines = stop (inl (eqb-false _ _ (sym (w .if-not-same-uuid .ensures tt)))); few = tt }
-      | then-not-same-uuid·by·else-not-same-uuid·then-not-goes-on w ↦ record { outlines = stop (inr (sym (w .if-not-goes-on .ensures tt))); few = tt }
-    ]
+pub returns-then-not-continues : need.returns-then-not-continues
+returns-then-not-continues c = record {
+  outlines = at-stop (c .args .held .now) (c .args .chain .now) _ _ _ _ _ (c .loop-k .inv) (c .pre .0) (c .pre .1) (c .of-next .result) _ code-blank (c .loop-k-test .taken) (c .of-next .ensures .fields) (c .of-next .ensures .high) (c .of-next .ensures .low) (c .in-Some .met) no-consist (sym (c .in-Some .ensures tt)) (fails _ _ _ (sym (c .if-not-continues .ensures tt)));
+  few = tt;
+}
 
 pub loop-k-again : need.loop-k-again
 loop-k-again c =
@@ -34,8 +29,8 @@ loop-k-again c =
     let here : Consists → Type 0 = λ v. Gathered (chain-nodes (c .args .held .now) (c .args .chain .now)) (c .loop-k .k + 1) (live (c .store .last .self)) (now (c .store .last .self .slots)) (v .row) (v .len) in
     elim (c .match-find .came) [
       | in-None w ↦ subst here (sym (w .consists-is)) (at-new (c .args .held .now) (c .args .chain .now) _ _ _ _ _ (c .loop-k .inv) (c .pre .0) (c .pre .1) (c .of-next .result) _ code-blank (c .loop-k-test .taken) (c .of-next .ensures .fields) (c .of-next .ensures .high) (c .of-next .ensures .low) (sym (w .in-None .ensures tt)) _ _ (c .store .ensures .live) long)
-      | in-Some·else-not-same-uuid·else-not-goes-on w ↦ subst here (sym (w .consists-is)) (at-on (c .args .held .now) (c .args .chain .now) _ _ _ _ _ (c .loop-k .inv) (c .pre .0) (c .pre .1) (c .of-next .result) _ code-blank (c .loop-k-test .taken) (c .of-next .ensures .fields) (c .of-next .ensures .high) (c .of-next .ensures .low) (w .in-Some .met) no-consist (sym (w .in-Some .ensures tt))
-          (eqb-true _ _ (sym (w .if-not-same-uuid .ensures tt))) (sym (w .if-not-goes-on .ensures tt)) _ _ (c .store .ensures .live) long)
+      | in-Some·else-not-continues w ↦ (let p = holds _ _ _ (sym (w .if-not-continues .ensures tt)) in
+          subst here (sym (w .consists-is)) (at-on (c .args .held .now) (c .args .chain .now) _ _ _ _ _ (c .loop-k .inv) (c .pre .0) (c .pre .1) (c .of-next .result) _ code-blank (c .loop-k-test .taken) (c .of-next .ensures .fields) (c .of-next .ensures .high) (c .of-next .ensures .low) (w .in-Some .met) no-consist (sym (w .in-Some .ensures tt)) (p .0) (p .1) _ _ (c .store .ensures .live) long))
     ]
 
 pub returns-then-consists-eq0 : need.returns-then-consists-eq0

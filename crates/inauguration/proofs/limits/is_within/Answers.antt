@@ -1,9 +1,6 @@
-use mathlib.Core.Path.{_≡_, sym, ap, ap₂, _∙_}
-use mathlib.Core.Bool.{_&&_}
+use mathlib.Core.Path.{_∙_}
 use native.Mathlib.Omega.{arith}
 use lib.Count.{ones-le}
-use lib.Dec.{leb}
-use Rattle.std.proofs.shelf.Tests.{le-leb, lt-leb}
 use Rattle.inauguration.proofs.Gathered.{no-consist}
 use Rattle.inauguration.proofs.Sums.{summed-none, summed-more, all-within}
 use Rattle.inauguration.proofs.limits.is_within.Needs as need
@@ -19,8 +16,6 @@ loop-consist-again c =
     summed-more (c .args .consists .now) (c .loop-consist .consist-index) _ _ _ no-consist (c .masks-masks .result .now) (c .together .result) (c .set-bits-bits .result) (c .loop-consist .inv)
     (c .loop-consist-test .taken) (c .masks-masks .ensures .value) (c .masks-masks .ensures .few) (c .together .ensures) (omega arith) (c .set-bits-bits .ensures .bits) (c .set-bits-bits .ensures .few)
 
-pub returns-then-networks-le-NETWORKS : need.returns-then-networks-le-NETWORKS
-returns-then-networks-le-NETWORKS c =
-    let t = c .if-networks-le-NETWORKS .taken in
-    sym (ap₂ (λ a b. a && b && leb (c .loop-consist .bits) 128) (le-leb _ _ (t .0)) (le-leb _ _ (t .1)))
-    ∙ all-within (c .args .consists .now) (c .loop-consist .consist-index) _ _ _ (c .loop-consist .inv) (c .loop-consist-test .left)
+pub returns : need.returns
+returns c =
+    c .are-within .ensures ∙ all-within (c .args .consists .now) (c .loop-consist .consist-index) _ _ _ (c .loop-consist .inv) (c .loop-consist-test .left)
