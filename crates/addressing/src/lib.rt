@@ -1,5 +1,7 @@
 //! The addresses of devices in a directory, under any address plan, and the devices at addresses.
 
+#![tactic(auto)]
+
 mod device;
 mod lookup;
 

@@ -1,5 +1,7 @@
 //! Nodes compared, and their calls played once more.
 
+#![tactic(auto)]
+
 mod again;
 mod agree;
 

@@ -1,5 +1,7 @@
 //! The nodes of a scenario, the calls made on them, and the holds in hand.
 
+#![tactic(auto)]
+
 mod holds;
 mod nodes;
 mod places;

@@ -1,5 +1,7 @@
 //! A described train: its consists from left to right, their ways round and who is awake.
 
+#![tactic(auto)]
+
 mod consist;
 mod fault;
 mod reading;

@@ -1,5 +1,7 @@
 //! The CRC-32 of IEEE 802.3, of bytes that may come in parts.
 
+#![tactic(auto)]
+
 mod table;
 
 ghost use Rattle.std.specs.Prelude.{◌≡◌, ◌-◌};

@@ -1,5 +1,7 @@
 //! The train network directory: the rows that the nodes of a line give, their bytes and counter, and what it is asked.
 
+#![tactic(auto)]
+
 mod ask;
 mod bytes;
 mod directory;

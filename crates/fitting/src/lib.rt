@@ -2,6 +2,8 @@
 //!
 //! The functions here only carry theorems, each in its contract.
 
+#![tactic(auto)]
+
 ghost use Rattle.fitting.specs.Theorems.{Inaugurates, NodesAgree};
 
 /// Rows are answered exactly where a line within the limits fits, and each refusal says why none does.

@@ -1,5 +1,7 @@
 //! HELLO frames of an Ethernet train backbone for C: 0 or a refusal's number is returned, everything else goes out through what C lends.
 
+#![tactic(auto)]
+
 ghost use Rattle.std.specs.Prelude.{◌≡◌, length};
 ghost use Rattle.hello_read.specs.Hellos.{hello_of};
 ghost use Rattle.hello_read.specs.Reading.{read};

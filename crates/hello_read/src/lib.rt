@@ -1,5 +1,7 @@
 //! HELLO frames of an Ethernet train backbone (IEC 61375-2-5, 8.7.5), read.
 
+#![tactic(auto)]
+
 mod fault;
 pub mod layout;
 mod range;

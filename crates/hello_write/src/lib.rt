@@ -1,5 +1,7 @@
 //! HELLO frames of an Ethernet train backbone (IEC 61375-2-5, 8.7.5), written.
 
+#![tactic(auto)]
+
 mod check;
 mod fault;
 mod frame;

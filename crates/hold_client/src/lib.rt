@@ -1,5 +1,7 @@
 //! A client of a node that has a hold on it while it reads the directory, so that no other comes into force meanwhile.
 
+#![tactic(auto)]
+
 mod fault;
 mod read;
 mod status;

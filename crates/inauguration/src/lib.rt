@@ -1,5 +1,7 @@
 //! Inauguration: from the reports held to the train's directory, or the first refusal.
 
+#![tactic(auto)]
+
 mod call;
 mod chain;
 mod consist;

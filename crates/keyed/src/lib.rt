@@ -3,6 +3,8 @@
 //! A kind of key shows that its order is total, and a kind of record names its kind of key.
 //! `list`, `find`, `store` and `remove` have the calls of a table, each apart from the others.
 
+#![tactic(auto)]
+
 pub mod find;
 pub mod key;
 pub mod list;

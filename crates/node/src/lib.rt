@@ -1,5 +1,7 @@
 //! A node of the train backbone: the reports that it holds, its directory and the holds on it, and what it is asked.
 
+#![tactic(auto)]
+
 mod call;
 mod fault;
 mod hold;

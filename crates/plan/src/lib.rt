@@ -1,5 +1,7 @@
 //! Address plans: a plan serves a set of places, each at an address of its own.
 
+#![tactic(auto)]
+
 mod consist;
 mod home;
 mod place;

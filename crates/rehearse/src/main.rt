@@ -1,5 +1,7 @@
 //! Plays a scenario from standard input, one statement a line, and prints every answer.
 
+#![tactic(auto)]
+
 mod held;
 mod inaugurate;
 

@@ -1,5 +1,7 @@
 //! What a program says of a node's answers.
 
+#![tactic(auto)]
+
 mod address;
 mod reply;
 

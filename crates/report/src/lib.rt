@@ -1,5 +1,7 @@
 //! What a backbone node reports of itself, its neighbours and its consist, and the words that carry it.
 
+#![tactic(auto)]
+
 mod crossed;
 mod fault;
 mod key;

@@ -1,5 +1,7 @@
 //! The language of scenarios: one statement a line.
 
+#![tactic(auto)]
+
 mod complaint;
 mod number;
 mod statement;

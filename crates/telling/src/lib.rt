@@ -1,5 +1,7 @@
 //! What a program says of reports, counters, described trains and HELLO frames.
 
+#![tactic(auto)]
+
 mod answer;
 mod described;
 mod hello;

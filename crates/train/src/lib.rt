@@ -2,6 +2,8 @@
 //!
 //! The functions here only carry theorems, each in its contract.
 
+#![tactic(auto)]
+
 ghost use Rattle.train.specs.Theorems.{FitsOneLine, OneDirectory, Agreement, Numbered, LimitsSuffice};
 
 /// Reports fit one line alone, read from one end or the other.

@@ -1,5 +1,7 @@
 //! Runs published CRC-32 vectors, each row at once and in two parts, and prints what came of each.
 
+#![tactic(auto)]
+
 mod published;
 
 ghost use Rattle.std.specs.Prelude.{◌≡◌};
