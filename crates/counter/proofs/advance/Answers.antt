@@ -13,7 +13,7 @@ loop-byte-preserved c =
     let now = c.loop-byte.register in
     let bytes = c.args.bytes.now in
     let fits : now < 2 ^ 32 = omega (arith, c.loop-byte.invariant, register_lt c.args.register (take i bytes)) in
-    let byte : c.from.result < 256 = omega (arith, c.type-inv.bytes i) in
+    let byte : c.from.result < 256 = omega (arith, c.type_inv.bytes i) in
     let one = register_step now c.from.result c.entry.result fits byte c.entry.ensures in
     let more = register_more c.args.register bytes i c.loop-byte-test.true in
     cc

@@ -19,10 +19,10 @@ answer l o = elim o [ None ↦ Ok (rows l) | Some f ↦ Err f ]
 pub returns : goal.returns
 returns c =
     let l = described c.args.consists.now in
-    let met = c.met-nodes-met.result in
+    let met = c.met_nodes-met.result in
     let front : met.count - 0 ≡ met.count = omega arith in
     let read : rows_from (take met.count met.nodes) ≡ rows l =
-    ap (λ xs. take 128 (rows_met (serving xs))) c.met-nodes-met.ensures.met ∙ gathered l c.requires.0 c.requires.1
+    ap (λ xs. take 128 (rows_met (serving xs))) c.met_nodes-met.ensures.met ∙ gathered l c.requires.0 c.requires.1
     in
     record {
       rows = ap Ok (c.of.ensures.rows ∙ ap (λ n. rows_from (take n met.nodes)) front ∙ read) ∙ sym (ap (answer l) (no_fault l c.requires.0 c.requires.1));

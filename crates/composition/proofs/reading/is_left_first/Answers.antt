@@ -21,10 +21,10 @@ returns-in-Less c =
     let r = right_is cs c.requires in
     less (whole (get_or cs 0 no_consist).uuid) (whole (get_or cs (length cs - 1) no_consist).uuid) c.in-Less.ensures.number ∙ (λ i. ltb (sym l i) (sym r i))
 
-pub returns-in-default : goal.returns-in-default
-returns-in-default c =
+pub returns-in_default : goal.returns-in_default
+returns-in_default c =
     let cs = c.args.consists.now in
     let l = left_is cs c.requires in
     let r = right_is cs c.requires in
-    not_less (whole (get_or cs 0 no_consist).uuid) (whole (get_or cs (length cs - 1) no_consist).uuid) (λ e. c.in-default.not-Less (c.compare.ensures.number ∙ sym e))
+    not_less (whole (get_or cs 0 no_consist).uuid) (whole (get_or cs (length cs - 1) no_consist).uuid) (λ e. c.in_default.not-Less (c.compare.ensures.number ∙ sym e))
     ∙ (λ i. ltb (sym l i) (sym r i))

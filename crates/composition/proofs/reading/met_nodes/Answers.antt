@@ -21,17 +21,17 @@ ahead cs k x h is =
     let own = ap (λ s. length s.consist.nodes) is in
     at_drop_more node_count read k nowhere inside ∙ omega (arith, own, length-map (nodes_of x) node_means)
 
-pub put-nodes-requires : goal.put-nodes-requires
-put-nodes-requires c =
+pub put_nodes-requires : goal.put_nodes-requires
+put_nodes-requires c =
     let cs = c.args.consists.now in
-    let here = ahead cs c.loop-place.place c.read-at-consist.result c.loop-place-test.true c.read-at-consist.ensures in
+    let here = ahead cs c.loop-place.place c.read_at-consist.result c.loop-place-test.true c.read_at-consist.ensures in
     let all = total_reading (λ c. length c.nodes) (described cs) in
     omega (arith, here, c.loop-place.invariant.1, c.loop-place.invariant.2, c.requires)
 
-pub overflow-add-count : goal.overflow-add-count
-overflow-add-count c =
+pub overflow_add-count : goal.overflow_add-count
+overflow_add-count c =
     let cs = c.args.consists.now in
-    let here = ahead cs c.loop-place.place c.read-at-consist.result c.loop-place-test.true c.read-at-consist.ensures in
+    let here = ahead cs c.loop-place.place c.read_at-consist.result c.loop-place-test.true c.read_at-consist.ensures in
     let all = total_reading (λ c. length c.nodes) (described cs) in
     omega (arith, here, c.loop-place.invariant.1, c.requires, ap length c.nodes.ensures)
 
@@ -40,22 +40,22 @@ loop-place-preserved c =
     let cs = c.args.consists.now in
     let read = reading (described cs) in
     let k = c.loop-place.place in
-    let x = c.read-at-consist.result in
+    let x = c.read_at-consist.result in
     let s = consist_means x in
-    let is = c.read-at-consist.ensures in
+    let is = c.read_at-consist.ensures in
     let inv = c.loop-place.invariant in
     let count = c.loop-place.count in
-    let nodes = c.put-nodes.new.nodes in
+    let nodes = c.put_nodes.new.nodes in
     let rest = flat_map met_of (drop (k + 1) read) in
     let here = ahead cs k x c.loop-place-test.true is in
     let own = ap length c.nodes.ensures in
     let long : length c.nodes.result.now ≡ length (standing s) = own ∙ sym (length_standing s ∙ length-map (nodes_of x) node_means) in
     let inside : k < length read = omega (arith, length_reading (described cs), length-map cs consist_means) in (
-      ap (λ n. nodes_mean (take (count + n) nodes) ++ rest) long ∙ ap (λ xs. xs ++ rest) c.put-nodes.ensures.front
+      ap (λ n. nodes_mean (take (count + n) nodes) ++ rest) long ∙ ap (λ xs. xs ++ rest) c.put_nodes.ensures.front
           ∙ append_assoc (nodes_mean (take count c.loop-place.nodes)) (met_of s) rest ∙ ap (λ t. nodes_mean (take count c.loop-place.nodes) ++ (met_of t ++ rest)) is
           ∙ ap (λ xs. nodes_mean (take count c.loop-place.nodes) ++ xs) (sym (at_drop_more (flat_map met_of) read k nowhere inside)) ∙ inv.0,
       omega (arith, own, here, inv.1),
-      omega (arith, inv.2, c.put-nodes.auto.nodes),
+      omega (arith, inv.2, c.put_nodes.auto.nodes),
     )
 
 pub returns : goal.returns

@@ -9,11 +9,11 @@ use Rattle.composition.proofs.reading.read_at.Goals as goal
 pub returns-then-last-eq0 : goal.returns-then-last-eq0
 returns-then-last-eq0 c = read_one c.args.consists.now c.args.place (omega arith) c.requires
 
-pub returns-then-is-left-first : goal.returns-then-is-left-first
-returns-then-is-left-first c =
+pub returns-then-is_left_first : goal.returns-then-is_left_first
+returns-then-is_left_first c =
     let cs = c.args.consists.now in
     let k = c.args.place in
-    sym (ap (λ l. get_or l k nowhere) (read_more cs (omega arith) ∙ ap (λ b. cond b (described cs) (flip (described cs))) (sym c.if-is-left-first.ensures)) ∙ place_at cs k c.requires)
+    sym (ap (λ l. get_or l k nowhere) (read_more cs (omega arith) ∙ ap (λ b. cond b (described cs) (flip (described cs))) (sym c.if-is_left_first.ensures)) ∙ place_at cs k c.requires)
 
 pub returns : goal.returns
 returns c =
@@ -22,4 +22,4 @@ returns c =
     let d = get_or cs (length cs - 1 - k) no_consist in
     let turned = c.other.ensures in
     (λ i. record { consist = (consist_means d).consist; way = turned i })
-    ∙ sym (ap (λ l. get_or l k nowhere) (read_more cs (omega arith) ∙ ap (λ b. cond b (described cs) (flip (described cs))) (sym c.if-is-left-first.ensures)) ∙ flip_at cs k c.requires)
+    ∙ sym (ap (λ l. get_or l k nowhere) (read_more cs (omega arith) ∙ ap (λ b. cond b (described cs) (flip (described cs))) (sym c.if-is_left_first.ensures)) ∙ flip_at cs k c.requires)

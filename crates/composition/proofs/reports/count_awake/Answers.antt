@@ -5,7 +5,7 @@ use Rattle.composition.specs.Meaning.{node_means}
 use Rattle.composition.specs.Faults.{mac_then, macs_in}
 use Rattle.composition.proofs.Steps.{no_node, asleep, awake_counts, macs_here}
 use Rattle.composition.proofs.reports.count_awake.Goals as goal
-use Rattle.composition.proofs.reports.count_awake.Goals.{then-is-some, else-is-some}
+use Rattle.composition.proofs.reports.count_awake.Goals.{then-is_some, else-is_some}
 
 pub loop-node-preserved : goal.loop-node-preserved
 loop-node-preserved c =
@@ -14,12 +14,12 @@ loop-node-preserved c =
     let o = (get_or ns i no_node).mac in
     let rest = macs_in (map node_means (drop (i + 1) ns)) in
     let inv = c.loop-node.invariant in
-    elim c.if-is-some.branch [
-      | then-is-some w ↦
-          let here = ap length (macs_here ns i c.loop-node-test.true (option_map (λ m. m.0) o) (λ _. option_map (λ m. m.0) o)) ∙ awake_counts o rest w.if-is-some.ensures in
+    elim c.if-is_some.branch [
+      | then-is_some w ↦
+          let here = ap length (macs_here ns i c.loop-node-test.true (option_map (λ m. m.0) o) (λ _. option_map (λ m. m.0) o)) ∙ awake_counts o rest w.if-is_some.ensures in
           (omega (arith, inv.0, here, w.count-is), omega (arith, inv.1, w.count-is))
-      | else-is-some w ↦
-          let here = ap length (macs_here ns i c.loop-node-test.true None (asleep o w.if-is-some.ensures)) in
+      | else-is_some w ↦
+          let here = ap length (macs_here ns i c.loop-node-test.true None (asleep o w.if-is_some.ensures)) in
           (omega (arith, inv.0, here, w.count-is), omega (arith, inv.1, w.count-is))
     ]
 

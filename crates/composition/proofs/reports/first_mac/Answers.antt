@@ -22,7 +22,7 @@ loop-consist-preserved c =
     let cs = c.args.consists.now in
     let s = consist_means (get_or cs k no_consist) in
     c.loop-consist.invariant ∙ at_drop_more (λ xs. awake (described xs)) cs k no_consist c.loop-consist-test.true
-    ∙ none_found (awake_of s) (awake (described (drop (k + 1) cs))) (c.in-default.ensures ∙ ap first_awake (standing_awake s))
+    ∙ none_found (awake_of s) (awake (described (drop (k + 1) cs))) (c.in_default.ensures ∙ ap first_awake (standing_awake s))
 
 pub returns : goal.returns
 returns c =

@@ -12,7 +12,7 @@ use Rattle.composition.specs.Sending.{coded}
 use Rattle.composition.proofs.Sending.{write_on, back_on}
 use Rattle.composition.proofs.Standing.{standing_awake, length_standing, step_on, next_is}
 use Rattle.composition.proofs.reports.put_consist.Goals as goal
-use Rattle.composition.proofs.reports.put_consist.Goals.{in-Some, in-default}
+use Rattle.composition.proofs.reports.put_consist.Goals.{in-Some, in_default}
 
 -- the awake nodes from a step on, at a node that is awake or asleep
 on : (c : consist.Consist) (ns : List node.Node) (k : ℕ) (x : placed.Placed) (o : Option Mac) → ns ≡ nodes_of c → k < length ns
@@ -54,9 +54,9 @@ loop-step-preserved c =
           let step = on c.args.consist.now c.nodes-step-end.result.now k c.met-placed.result (Some w.in-Some.mac) c.nodes-step-end.ensures c.loop-step-test.true c.met-placed.ensures w.in-Some.is in
           let inside : end < length out = omega (arith, ap length step, inv.2, c.loop-step.auto.out, c.requires) in
           let a = awake_node s c.met-placed.result.position w.in-Some.mac.0 in
-          let v = w.report-of.result in
-          let right = ap (λ m. m.0) w.unwrap-or-right.ensures ∙ next_is w.next-awake.result rest c.args.after w.next-awake.ensures in
-          let v-is = w.report-of.ensures ∙ ap (λ r. coded (report last a r)) right in
+          let v = w.report_of.result in
+          let right = ap (λ m. m.0) w.unwrap_or-right.ensures ∙ next_is w.next_awake.result rest c.args.after w.next_awake.ensures in
+          let v-is = w.report_of.ensures ∙ ap (λ r. coded (report last a r)) right in
           let tail = map coded (reports_between w.in-Some.mac.0 rest after) in (
             (λ i. take (w.end-is i) (w.out-is i) ++ map coded (reports_between (w.last-is i).0 rest after)) ∙ write_on out c.args.out.now end v tail inside
                 ∙ ap (λ x. take end out ++ x ∷ tail) v-is ∙ sym (ap (λ xs. take end out ++ map coded (reports_between last xs after)) step) ∙ inv.0,
@@ -64,8 +64,8 @@ loop-step-preserved c =
             omega (arith, w.end-is, ap length step, inv.2),
             (λ i. drop (w.end-is i) (w.out-is i)) ∙ back_on out c.args.out.now end v inv.3 ∙ ap (λ n. drop n c.args.out.now) (sym w.end-is),
           )
-      | in-default w ↦
-          let step = on c.args.consist.now c.nodes-step-end.result.now k c.met-placed.result None c.nodes-step-end.ensures c.loop-step-test.true c.met-placed.ensures w.in-default.is in (
+      | in_default w ↦
+          let step = on c.args.consist.now c.nodes-step-end.result.now k c.met-placed.result None c.nodes-step-end.ensures c.loop-step-test.true c.met-placed.ensures w.in_default.is in (
             (λ i. take (w.end-is i) (w.out-is i) ++ map coded (reports_between (w.last-is i).0 rest after))
                 ∙ sym (ap (λ xs. take end out ++ map coded (reports_between last xs after)) step) ∙ inv.0,
             ap (λ m. last_mac m.0 rest) w.last-is ∙ sym (ap (last_mac last) step) ∙ inv.1,

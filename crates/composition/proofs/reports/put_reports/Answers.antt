@@ -8,8 +8,8 @@ use Rattle.composition.proofs.Sending.{length_reports, joins}
 use Rattle.composition.proofs.Steps.{no_consist}
 use Rattle.composition.proofs.reports.put_reports.Goals as goal
 
-pub put-consist-end-requires : goal.put-consist-end-requires
-put-consist-end-requires c =
+pub put_consist-end-requires : goal.put_consist-end-requires
+put_consist-end-requires c =
     let i = c.loop-i.i in
     let cs = c.args.consists.now in
     let s = consist_means (get_or cs i no_consist) in
@@ -23,17 +23,17 @@ loop-i-preserved c =
     let s = consist_means (get_or cs i no_consist) in
     let rest = awake (described (drop (i + 1) cs)) in
     let inv = c.loop-i.invariant in
-    let put = c.put-consist-end.ensures in
+    let put = c.put_consist-end.ensures in
     let at = c.loop-i.at in
     let out = c.loop-i.out in
     let left = c.loop-i.left.0 in
-    let end = c.put-consist-end.result.0 in
-    let last = c.put-consist-end.result.1.0 in
+    let end = c.put_consist-end.result.0 in
+    let last = c.put_consist-end.result.1.0 in
     let here = at_drop_more (λ xs. awake (described xs)) cs i no_consist c.loop-i-test.true in
-    let after = c.first-mac-after.ensures ∙ ap (λ xs. first_mac (awake (described xs))) (take_rest cs (i + 1)) in
+    let after = c.first_mac-after.ensures ∙ ap (λ xs. first_mac (awake (described xs))) (take_rest cs (i + 1)) in
     let n = length (awake_of s) in
     let apart = length-append (awake_of s) rest in (
-      ap (λ xs. xs ++ map coded (reports last rest)) put.front ∙ joins (take at out) left (awake_of s) rest c.first-mac-after.result.0 last after put.lasts
+      ap (λ xs. xs ++ map coded (reports last rest)) put.front ∙ joins (take at out) left (awake_of s) rest c.first_mac-after.result.0 last after put.lasts
           ∙ sym (ap (λ xs. take at out ++ map coded (reports left xs)) here) ∙ inv.0,
       omega (arith, put.ends, ap length here, apart, inv.1),
       put.back ∙ ap (λ k. drop k out) put.ends ∙ sym (drop-drop n at out) ∙ ap (drop n) inv.2 ∙ drop-drop n at c.args.out.now ∙ ap (λ k. drop k c.args.out.now) (sym put.ends),

@@ -5,8 +5,8 @@ use Rattle.composition.specs.Meaning.{node_means, masks_of, nodes_of}
 use Rattle.composition.proofs.Steps.{few_nodes}
 use Rattle.composition.proofs.reports.report_of.Goals as goal
 
-pub overflow-cast-result : goal.overflow-cast-result
-overflow-cast-result c = omega (arith, few_nodes c.args.consist.now, ap length c.nodes.ensures)
+pub overflow_cast-result : goal.overflow_cast-result
+overflow_cast-result c = omega (arith, few_nodes c.args.consist.now, ap length c.nodes.ensures)
 
 pub returns : goal.returns
 returns c =

@@ -15,7 +15,7 @@ pub loop-place-preserved : goal.loop-place-preserved
 loop-place-preserved c =
     let k = c.loop-place.place in
     let cs = c.args.consists.now in
-    c.loop-place.invariant ∙ consist_good cs k c.loop-place-test.true c.in-default.ensures
+    c.loop-place.invariant ∙ consist_good cs k c.loop-place-test.true c.in_default.ensures
 
 pub returns : goal.returns
 returns c =

@@ -16,13 +16,13 @@ use Rattle.composition.proofs.rules.check_limits.Goals as goal
 more : (sum next own part rest all rest' : ℕ) → min (sum + rest) 65535 ≡ min all 65535 → next ≡ min (sum + own) 65535 → rest ≡ part + rest' → own ≡ part → min (next + rest') 65535 ≡ min all 65535
 more sum next own part rest all rest' e f g p = omega arith
 
-pub overflow-cast-own : goal.overflow-cast-own
-overflow-cast-own c =
+pub overflow_cast-own : goal.overflow_cast-own
+overflow_cast-own c =
     let d = get_or c.args.consists.now c.loop-consist.consist-index no_consist in
     omega (arith, few_nodes d, ap length c.nodes-own.ensures)
 
-pub set-bits-requires : goal.set-bits-requires
-set-bits-requires c =
+pub set_bits-requires : goal.set_bits-requires
+set_bits-requires c =
     let d = get_or c.args.consists.now c.loop-consist.consist-index no_consist in
     omega (arith, few_nodes d, ap length c.nodes-own.ensures)
 
@@ -41,11 +41,11 @@ loop-consist-preserved c =
     let long = length-map ns node_means in
     let served = c.served.ensures in
     let ones-are = networks_are_ones c.served.result (omega arith) in
-    let marks = c.set-bits.ensures ∙ ap (λ ns. set_bits (masks_of ns)) c.nodes-own.ensures in
+    let marks = c.set_bits.ensures ∙ ap (λ ns. set_bits (masks_of ns)) c.nodes-own.ensures in
     let count : length (networks (together (masks_of ns))) ≡ ones c.served.result = ap (λ m. length (networks m)) (sym served) ∙ ones-are in (
-      more _ _ _ _ _ _ _ inv.0 c.saturating-add-nodes.ensures nodes (own ∙ sym long),
-      more _ _ _ _ _ _ _ inv.1 c.saturating-add-networks.ensures networked (sym count),
-      more _ _ _ _ _ _ _ inv.2 c.saturating-add-bits.ensures bits marks,
+      more _ _ _ _ _ _ _ inv.0 c.saturating_add-nodes.ensures nodes (own ∙ sym long),
+      more _ _ _ _ _ _ _ inv.1 c.saturating_add-networks.ensures networked (sym count),
+      more _ _ _ _ _ _ _ inv.2 c.saturating_add-bits.ensures bits marks,
     )
 
 -- what the sums say of the limits where they have stopped

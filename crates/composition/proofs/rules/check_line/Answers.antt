@@ -20,45 +20,45 @@ some_consist cs e =
     let some = eqb-false (length cs) 0 (sym e) in
     sym (le-leb 1 (length (described cs)) (omega (arith, length-map cs consist_means)))
 
-pub returns-then-is-empty : goal.returns-then-is-empty
-returns-then-is-empty c =
+pub returns-then-is_empty : goal.returns-then-is_empty
+returns-then-is_empty c =
     let cs = c.args.consists.now in
     let l = described cs in
-    let none : length cs ≡ 0 = eqb-true (length cs) 0 (sym c.if-is-empty.ensures) in
+    let none : length cs ≡ 0 = eqb-true (length cs) 0 (sym c.if-is_empty.ensures) in
     let n : false ≡ leb 1 (length l) = ap (leb 1) (sym (length-map cs consist_means ∙ none)) in
     let fault : Err NoConsist ≡ told (line_fault l) = (λ i. told (ordered (n i) (option_map InConsist (consists_fault 0 l)) (uuid_fault l) (mac_twice_fault l) (limit_fault l))) in
     record { fault = fault; exact = exact l (Err NoConsist) fault }
 
-pub returns-in-err-check-consists : goal.returns-in-err-check-consists
-returns-in-err-check-consists c =
+pub returns-in_err-check_consists : goal.returns-in_err-check_consists
+returns-in_err-check_consists c =
     let cs = c.args.consists.now in
     let l = described cs in
-    let n = some_consist cs c.if-is-empty.ensures in
-    let p = err_from_is_err_and c.from-residual.result c.from-residual.ensures.1 in
-    let s = ap (option_map InConsist) (sym (told_some (consists_fault 0 l) _ c.in-err-check-consists.ensures)) in
+    let n = some_consist cs c.if-is_empty.ensures in
+    let p = err_from_is_err_and c.from_residual.result c.from_residual.ensures.1 in
+    let s = ap (option_map InConsist) (sym (told_some (consists_fault 0 l) _ c.in_err-check_consists.ensures)) in
     let fault = p.1 ∙ ap Err p.2 ∙ (λ i. told (ordered (n i) (s i) (uuid_fault l) (mac_twice_fault l) (limit_fault l))) in
     record { fault = fault; exact = exact l _ fault }
 
-pub returns-in-err-check-uuids : goal.returns-in-err-check-uuids
-returns-in-err-check-uuids c =
+pub returns-in_err-check_uuids : goal.returns-in_err-check_uuids
+returns-in_err-check_uuids c =
     let cs = c.args.consists.now in
     let l = described cs in
-    let n = some_consist cs c.if-is-empty.ensures in
-    let s = ap (option_map InConsist) (sym (told_none (consists_fault 0 l) c.in-ok-check-consists.ensures)) in
-    let p = err_from_is_err_and c.from-residual-in-err-check-uuids.result c.from-residual-in-err-check-uuids.ensures.1 in
-    let u = sym (told_some (uuid_fault l) _ c.in-err-check-uuids.ensures) in
+    let n = some_consist cs c.if-is_empty.ensures in
+    let s = ap (option_map InConsist) (sym (told_none (consists_fault 0 l) c.in_ok-check_consists.ensures)) in
+    let p = err_from_is_err_and c.from_residual-in_err-check_uuids.result c.from_residual-in_err-check_uuids.ensures.1 in
+    let u = sym (told_some (uuid_fault l) _ c.in_err-check_uuids.ensures) in
     let fault = p.1 ∙ ap Err p.2 ∙ (λ i. told (ordered (n i) (s i) (u i) (mac_twice_fault l) (limit_fault l))) in
     record { fault = fault; exact = exact l _ fault }
 
-pub returns-in-err-check-macs : goal.returns-in-err-check-macs
-returns-in-err-check-macs c =
+pub returns-in_err-check_macs : goal.returns-in_err-check_macs
+returns-in_err-check_macs c =
     let cs = c.args.consists.now in
     let l = described cs in
-    let n = some_consist cs c.if-is-empty.ensures in
-    let s = ap (option_map InConsist) (sym (told_none (consists_fault 0 l) c.in-ok-check-consists.ensures)) in
-    let u = sym (told_none (uuid_fault l) c.in-ok-check-uuids.ensures) in
-    let p = err_from_is_err_and c.from-residual-in-err-check-macs.result c.from-residual-in-err-check-macs.ensures.1 in
-    let m = sym (told_some (mac_twice_fault l) _ c.in-err-check-macs.ensures) in
+    let n = some_consist cs c.if-is_empty.ensures in
+    let s = ap (option_map InConsist) (sym (told_none (consists_fault 0 l) c.in_ok-check_consists.ensures)) in
+    let u = sym (told_none (uuid_fault l) c.in_ok-check_uuids.ensures) in
+    let p = err_from_is_err_and c.from_residual-in_err-check_macs.result c.from_residual-in_err-check_macs.ensures.1 in
+    let m = sym (told_some (mac_twice_fault l) _ c.in_err-check_macs.ensures) in
     let fault = p.1 ∙ ap Err p.2 ∙ (λ i. told (ordered (n i) (s i) (u i) (m i) (limit_fault l))) in
     record { fault = fault; exact = exact l _ fault }
 
@@ -66,9 +66,9 @@ pub returns : goal.returns
 returns c =
     let cs = c.args.consists.now in
     let l = described cs in
-    let n = some_consist cs c.if-is-empty.ensures in
-    let s = ap (option_map InConsist) (sym (told_none (consists_fault 0 l) c.in-ok-check-consists.ensures)) in
-    let u = sym (told_none (uuid_fault l) c.in-ok-check-uuids.ensures) in
-    let m = sym (told_none (mac_twice_fault l) c.in-ok-check-macs.ensures) in
-    let fault = c.check-limits.ensures ∙ (λ i. told (ordered (n i) (s i) (u i) (m i) (limit_fault l))) in
+    let n = some_consist cs c.if-is_empty.ensures in
+    let s = ap (option_map InConsist) (sym (told_none (consists_fault 0 l) c.in_ok-check_consists.ensures)) in
+    let u = sym (told_none (uuid_fault l) c.in_ok-check_uuids.ensures) in
+    let m = sym (told_none (mac_twice_fault l) c.in_ok-check_macs.ensures) in
+    let fault = c.check_limits.ensures ∙ (λ i. told (ordered (n i) (s i) (u i) (m i) (limit_fault l))) in
     record { fault = fault; exact = exact l _ fault }

@@ -33,7 +33,7 @@ loop-consist-preserved c =
     let u = whole c.args.uuid in
     let v = whole (get_or cs k no_consist).uuid in
     c.loop-consist.invariant ∙ uuid_here cs k c.loop-consist-test.true u
-    ∙ ap (λ b. b || among u (flat_map uuid_row (described (drop (k + 1) cs)))) (unequal v u (λ e. c.in-default.not-Equal (c.compare.ensures.number ∙ sym e)))
+    ∙ ap (λ b. b || among u (flat_map uuid_row (described (drop (k + 1) cs)))) (unequal v u (λ e. c.in_default.not-Equal (c.compare.ensures.number ∙ sym e)))
 
 pub returns : goal.returns
 returns c =

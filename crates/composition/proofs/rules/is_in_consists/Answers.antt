@@ -6,12 +6,12 @@ use Rattle.composition.specs.Faults.{among, macs_in, mac_row}
 use Rattle.composition.proofs.Steps.{mac_here}
 use Rattle.composition.proofs.rules.is_in_consists.Goals as goal
 
-pub returns-then-is-in-nodes : goal.returns-then-is-in-nodes
-returns-then-is-in-nodes c =
+pub returns-then-is_in_nodes : goal.returns-then-is_in_nodes
+returns-then-is_in_nodes c =
     let k = c.loop-consist.consist-index in
     let cs = c.args.consists.now in
     let m = c.args.mac.0 in
-    let found = c.if-is-in-nodes.ensures ∙ ap (λ ns. among m (macs_in (map node_means ns))) c.nodes.ensures in
+    let found = c.if-is_in_nodes.ensures ∙ ap (λ ns. among m (macs_in (map node_means ns))) c.nodes.ensures in
     sym (c.loop-consist.invariant ∙ mac_here cs k c.loop-consist-test.true m ∙ ap (λ b. b || among m (flat_map mac_row (described (drop (k + 1) cs)))) (sym found))
 
 pub loop-consist-preserved : goal.loop-consist-preserved
@@ -19,7 +19,7 @@ loop-consist-preserved c =
     let k = c.loop-consist.consist-index in
     let cs = c.args.consists.now in
     let m = c.args.mac.0 in
-    let lacking = c.if-is-in-nodes.ensures ∙ ap (λ ns. among m (macs_in (map node_means ns))) c.nodes.ensures in
+    let lacking = c.if-is_in_nodes.ensures ∙ ap (λ ns. among m (macs_in (map node_means ns))) c.nodes.ensures in
     c.loop-consist.invariant ∙ mac_here cs k c.loop-consist-test.true m ∙ ap (λ b. b || among m (flat_map mac_row (described (drop (k + 1) cs)))) (sym lacking)
 
 pub returns : goal.returns

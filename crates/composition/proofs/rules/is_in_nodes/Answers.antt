@@ -6,7 +6,7 @@ use Rattle.composition.specs.Meaning.{node_means}
 use Rattle.composition.specs.Faults.{among, macs_in}
 use Rattle.composition.proofs.Steps.{no_node, macs_here}
 use Rattle.composition.proofs.rules.is_in_nodes.Goals as goal
-use Rattle.composition.proofs.rules.is_in_nodes.Goals.{in-Some+else-eq, in-default}
+use Rattle.composition.proofs.rules.is_in_nodes.Goals.{in-Some+else-eq, in_default}
 
 pub returns-then-eq : goal.returns-then-eq
 returns-then-eq c =
@@ -26,7 +26,7 @@ loop-node-preserved c =
       | in-Some+else-eq w ↦
           c.loop-node.invariant ∙ ap (among m) (macs_here ns i c.loop-node-test.true (Some w.in-Some.other.0) (ap (option_map (λ m. m.0)) w.in-Some.is))
           ∙ ap (λ b. b || among m (macs_in (map node_means (drop (i + 1) ns)))) (ne_eqb m w.in-Some.other.0 (λ e. false≢true (w.if-eq.ensures.1 (sym e))))
-      | in-default w ↦ c.loop-node.invariant ∙ ap (among m) (macs_here ns i c.loop-node-test.true None (ap (option_map (λ m. m.0)) w.in-default.is))
+      | in_default w ↦ c.loop-node.invariant ∙ ap (among m) (macs_here ns i c.loop-node-test.true None (ap (option_map (λ m. m.0)) w.in_default.is))
     ]
 
 pub returns : goal.returns

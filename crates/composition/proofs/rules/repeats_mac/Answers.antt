@@ -7,10 +7,10 @@ use Rattle.composition.specs.Meaning.{node_means, described}
 use Rattle.composition.specs.Faults.{among, macs_in, mac_row, repeats}
 use Rattle.composition.proofs.Steps.{asleep_on, awake_on, stands_before}
 use Rattle.composition.proofs.rules.repeats_mac.Goals as goal
-use Rattle.composition.proofs.rules.repeats_mac.Goals.{then-is-in-consists-via-then-is-in-consists, then-is-in-consists-via-else-is-in-consists+then-is-in-nodes, in-Some+else-is-in-consists+else-is-in-nodes, in-default}
+use Rattle.composition.proofs.rules.repeats_mac.Goals.{then-is_in_consists-via-then-is_in_consists, then-is_in_consists-via-else-is_in_consists+then-is_in_nodes, in-Some+else-is_in_consists+else-is_in_nodes, in_default}
 
-pub returns-then-is-in-consists : goal.returns-then-is-in-consists
-returns-then-is-in-consists c =
+pub returns-then-is_in_consists : goal.returns-then-is_in_consists
+returns-then-is_in_consists c =
     let i = c.loop-i.i in
     let ns = c.args.nodes.now in
     let seen = flat_map mac_row (described c.args.before.now) in
@@ -18,9 +18,9 @@ returns-then-is-in-consists c =
     let is = ap (option_map (λ m. m.0)) c.in-Some.is in
     let own = among m (macs_in (map node_means (take (i - 0) ns))) in
     let before : (among m seen || own) ≡ true =
-    elim c.then-is-in-consists.branch [
-      | then-is-in-consists-via-then-is-in-consists w ↦ or_left (among m seen) own (sym w.if-is-in-consists.ensures)
-      | then-is-in-consists-via-else-is-in-consists+then-is-in-nodes w ↦ or_right (among m seen) own (sym w.if-is-in-nodes.ensures)
+    elim c.then-is_in_consists.branch [
+      | then-is_in_consists-via-then-is_in_consists w ↦ or_left (among m seen) own (sym w.if-is_in_consists.ensures)
+      | then-is_in_consists-via-else-is_in_consists+then-is_in_nodes w ↦ or_right (among m seen) own (sym w.if-is_in_nodes.ensures)
     ]
     in
     sym (c.loop-i.invariant ∙ stands_before seen ns i c.loop-i-test.true m is before)
@@ -31,9 +31,9 @@ loop-i-preserved c =
     let ns = c.args.nodes.now in
     let seen = flat_map mac_row (described c.args.before.now) in
     elim c.match-node.branch [
-      | in-Some+else-is-in-consists+else-is-in-nodes w ↦
-          c.loop-i.invariant ∙ awake_on seen ns i c.loop-i-test.true w.in-Some.mac.0 (ap (option_map (λ m. m.0)) w.in-Some.is) (sym w.if-is-in-consists.ensures) (sym w.if-is-in-nodes.ensures)
-      | in-default w ↦ c.loop-i.invariant ∙ asleep_on seen ns i c.loop-i-test.true (ap (option_map (λ m. m.0)) w.in-default.is)
+      | in-Some+else-is_in_consists+else-is_in_nodes w ↦
+          c.loop-i.invariant ∙ awake_on seen ns i c.loop-i-test.true w.in-Some.mac.0 (ap (option_map (λ m. m.0)) w.in-Some.is) (sym w.if-is_in_consists.ensures) (sym w.if-is_in_nodes.ensures)
+      | in_default w ↦ c.loop-i.invariant ∙ asleep_on seen ns i c.loop-i-test.true (ap (option_map (λ m. m.0)) w.in_default.is)
     ]
 
 pub returns : goal.returns

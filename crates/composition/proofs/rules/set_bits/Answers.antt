@@ -7,8 +7,8 @@ use Rattle.train.proofs.SetBits.{networks_are_ones}
 use Rattle.composition.proofs.Steps.{no_node}
 use Rattle.composition.proofs.rules.set_bits.Goals as goal
 
-pub overflow-add-bits : goal.overflow-add-bits
-overflow-add-bits c = omega (arith, ones-le 8 (get_or c.args.nodes.now c.loop-node.node-index no_node).mask (omega arith))
+pub overflow_add-bits : goal.overflow_add-bits
+overflow_add-bits c = omega (arith, ones-le 8 (get_or c.args.nodes.now c.loop-node.node-index no_node).mask (omega arith))
 
 pub loop-node-preserved : goal.loop-node-preserved
 loop-node-preserved c =

@@ -7,13 +7,13 @@ pub returns-then-rows-others : goal.returns-then-rows-others
 returns-then-rows-others c =
     (λ z. absurd (false≢true z), λ e. absurd (c.if-rows-others.true (same_length c.args.rows.now c.args.others.now e)))
 
-pub returns-then-not-is-same : goal.returns-then-not-is-same
-returns-then-not-is-same c =
+pub returns-then-not-is_same : goal.returns-then-not-is_same
+returns-then-not-is_same c =
     let rows = c.args.rows.now in
     let others = c.args.others.now in
     let i = c.loop-i.i in
     let there : i < length others = omega (arith, c.if-rows-others.false) in
-    (λ z. absurd (false≢true z), λ e. c.if-not-is-same.ensures.1 (same_at rows others i c.loop-i-test.true there e))
+    (λ z. absurd (false≢true z), λ e. c.if-not-is_same.ensures.1 (same_at rows others i c.loop-i-test.true there e))
 
 pub loop-i-preserved : goal.loop-i-preserved
 loop-i-preserved c =
@@ -21,7 +21,7 @@ loop-i-preserved c =
     let others = c.args.others.now in
     let i = c.loop-i.i in
     let there : i < length others = omega (arith, c.if-rows-others.false) in
-    same_more rows others i c.loop-i-test.true there c.loop-i.invariant (c.is-same.ensures.0 c.if-not-is-same.false)
+    same_more rows others i c.loop-i-test.true there c.loop-i.invariant (c.is_same.ensures.0 c.if-not-is_same.false)
 
 pub returns : goal.returns
 returns c =

@@ -4,7 +4,7 @@ use Rattle.directory.specs.Meaning.{rows_mean}
 use Rattle.directory.specs.Asked.{lowest, highest, nodes_of}
 use Rattle.directory.proofs.Searches.{consist_past, consist_more, consist_none}
 use Rattle.directory.proofs.ask.span.Goals as goal
-use Rattle.directory.proofs.ask.span.Goals.{then-same-uuid, else-same-uuid}
+use Rattle.directory.proofs.ask.span.Goals.{then-same_uuid, else-same_uuid}
 
 pub loop-row-preserved : goal.loop-row-preserved
 loop-row-preserved c =
@@ -12,14 +12,14 @@ loop-row-preserved c =
     let i = c.loop-row.row-index in
     let u = whole c.args.uuid in
     let rest = nodes_of u (rows_mean (drop (i + 1) rows)) in
-    elim c.if-same-uuid.branch [
-      | then-same-uuid w ↦
-          let more = consist_more u i rows c.loop-row-test.true (sym c.same-uuid.ensures ∙ w.if-same-uuid.true) in (
+    elim c.if-same_uuid.branch [
+      | then-same_uuid w ↦
+          let more = consist_more u i rows c.loop-row-test.true (sym c.same_uuid.ensures ∙ w.if-same_uuid.true) in (
             ap (λ n. lowest n rest) (w.low-is ∙ w.min-low.ensures) ∙ ap (λ xs. lowest c.loop-row.low xs) (sym more) ∙ c.loop-row.invariant.0,
             ap (λ n. highest n rest) (w.high-is ∙ w.max-high.ensures) ∙ ap (λ xs. highest c.loop-row.high xs) (sym more) ∙ c.loop-row.invariant.1,
           )
-      | else-same-uuid w ↦
-          let past = consist_past u i rows c.loop-row-test.true (sym c.same-uuid.ensures ∙ w.if-same-uuid.false) in (
+      | else-same_uuid w ↦
+          let past = consist_past u i rows c.loop-row-test.true (sym c.same_uuid.ensures ∙ w.if-same_uuid.false) in (
             ap (λ n. lowest n rest) w.low-is ∙ ap (λ xs. lowest c.loop-row.low xs) past ∙ c.loop-row.invariant.0,
             ap (λ n. highest n rest) w.high-is ∙ ap (λ xs. highest c.loop-row.high xs) past ∙ c.loop-row.invariant.1,
           )

@@ -14,7 +14,7 @@ loop-i-preserved c =
     let out = c.args.out.now in
     let front = rows_bytes (rows_mean (take i rows)) in
     let next = row_bytes (row_means (get_or rows i blank)) in
-    let copied : c.copy-from-slice.new.self ≡ next = c.copy-from-slice.ensures.after ∙ c.bytes.ensures in
+    let copied : c.copy_from_slice.new.self ≡ next = c.copy_from_slice.ensures.after ∙ c.bytes.ensures in
     let width : 20 * i + 20 - 20 * i ≡ 20 = omega arith in
     (λ j. put_mid (20 * i) (width j) (c.loop-i.invariant j) (copied j))
     ∙ written_more (20 * i) 20 front next out (front_long rows i (omega arith)) refl

@@ -6,17 +6,17 @@ use Rattle.directory.proofs.Filling.{high_few, top_few, round_not, round_begins,
 use Rattle.directory.proofs.Subnets.{or_next}
 use Rattle.directory.proofs.Places.{lookups}
 use Rattle.directory.proofs.fill.fill.Goals as goal
-use Rattle.directory.proofs.fill.fill.Goals.{then-k-draft, else-k-draft+then-is-of}
+use Rattle.directory.proofs.fill.fill.Goals.{then-k-draft, else-k-draft+then-is_of}
 
-pub overflow-add-number : goal.overflow-add-number
-overflow-add-number c =
+pub overflow_add-number : goal.overflow_add-number
+overflow_add-number c =
     let r = c.rows.invariant in
     let n = high_few _ _ _ _ _ r.held in
     let few = r.held.few in
     omega (arith, r.number_is)
 
-pub overflow-add-top : goal.overflow-add-top
-overflow-add-top c =
+pub overflow_add-top : goal.overflow_add-top
+overflow_add-top c =
     let h = c.loop-network.invariant.held in
     let n = top_few _ _ _ _ _ h in
     let few = h.few in
@@ -37,7 +37,7 @@ loop-k-preserved c =
     let h = l.invariant.held in
     let there : c.loop-k.k < l.draft.count = omega (arith, c.loop-k.invariant.0) in
     let u = whole (get_or c.args.nodes.now c.rows.node-index no_node).uuid in
-    let past = look_past u l.network c.loop-k.k l.draft.count l.draft.rows h.long h.few there c.if-is-of.ensures in
+    let past = look_past u l.network c.loop-k.k l.draft.count l.draft.rows h.long h.few there c.if-is_of.ensures in
     (omega arith, c.loop-k.invariant.1, past ∙ c.loop-k.invariant.2)
 
 pub loop-network-preserved : goal.loop-network-preserved
@@ -58,10 +58,10 @@ loop-network-preserved c =
           in
           let next : s ≡ l.top + 1 = w.subnet-is ∙ ap (λ n. n + 1) c.loop-k.invariant.1 in
           (next ∙ ap (λ o. or_next l.top o) (sym none), omega (arith, w.top-is, c.loop-k.invariant.1))
-      | else-k-draft+then-is-of w ↦
+      | else-k-draft+then-is_of w ↦
           let there : c.loop-k.k < count = omega (arith, w.if-k-draft.false, c.loop-k.invariant.0) in
           let found : given u l.network rs ≡ Some s =
-          sym c.loop-k.invariant.2 ∙ look_found u l.network c.loop-k.k count rows h.long h.few there w.if-is-of.ensures
+          sym c.loop-k.invariant.2 ∙ look_found u l.network c.loop-k.k count rows h.long h.few there w.if-is_of.ensures
           ∙ ap (λ n. Some n) (sym w.subnet-is)
           in (
             ap (λ o. or_next l.top o) (sym found),

@@ -10,11 +10,11 @@ loop-byte-preserved c = more c.loop-byte.value c.from.result c.loop-byte.byte-in
 pub loop-byte-init : goal.loop-byte-init
 loop-byte-init c = (refl, omega arith)
 
-pub overflow-mul-value : goal.overflow-mul-value
-overflow-mul-value c = omega (arith, below_8 c.loop-byte.value c.loop-byte.byte-index c.loop-byte.invariant.1 (omega arith))
+pub overflow_mul-value : goal.overflow_mul-value
+overflow_mul-value c = omega (arith, below_8 c.loop-byte.value c.loop-byte.byte-index c.loop-byte.invariant.1 (omega arith))
 
-pub overflow-add-value : goal.overflow-add-value
-overflow-add-value c = omega (arith, c.from.ensures, below_8 c.loop-byte.value c.loop-byte.byte-index c.loop-byte.invariant.1 (omega arith))
+pub overflow_add-value : goal.overflow_add-value
+overflow_add-value c = omega (arith, c.from.ensures, below_8 c.loop-byte.value c.loop-byte.byte-index c.loop-byte.invariant.1 (omega arith))
 
 pub returns : goal.returns
 returns c =

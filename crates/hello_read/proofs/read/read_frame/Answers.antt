@@ -10,24 +10,24 @@ use Rattle.hello_read.proofs.read.read_frame.Goals as goal
 pub returns-then-frame-lt-HEAD : goal.returns-then-frame-lt-HEAD
 returns-then-frame-lt-HEAD c = record { answer = sym (by_size c.args.frame.now c.then-frame-lt-HEAD.either); frame = tt }
 
-pub returns-in-err-hello : goal.returns-in-err-hello
-returns-in-err-hello c =
+pub returns-in_err-hello : goal.returns-in_err-hello
+returns-in_err-hello c =
     let frame = c.args.frame.now in
     let at = c.in-Some.at in
-    let out = err_from_is_err_and c.from-residual-in-err-hello.result c.from-residual-in-err-hello.ensures.1 in
-    let walked = by_walk frame (omega arith) (omega arith) (sym c.is-headed.ensures ∙ c.if-not-is-headed.false) (sym c.find-hello.ensures.answer ∙ c.in-ok-at.was ∙ ap Ok c.in-Some.is) in
-    let fault = refused (first_wrong (asked (contents_at at frame))) (answer_at at frame) c.in-err-hello.field-0.0 c.in-err-hello.ensures in
+    let out = err_from_is_err_and c.from_residual-in_err-hello.result c.from_residual-in_err-hello.ensures.1 in
+    let walked = by_walk frame (omega arith) (omega arith) (sym c.is_headed.ensures ∙ c.if-not-is_headed.false) (sym c.find_hello.ensures.answer ∙ c.in_ok-at.was ∙ ap Ok c.in-Some.is) in
+    let fault = refused (first_wrong (asked (contents_at at frame))) (answer_at at frame) c.in_err-hello.field-0.0 c.in_err-hello.ensures in
     record {
       answer = ap read_told out.1 ∙ ap (λ e. Err (frame_refusal e)) out.2 ∙ sym (walked ∙ fault);
-      frame = IfOk-from_err c.from-residual-in-err-hello.result _ c.from-residual-in-err-hello.ensures.0;
+      frame = IfOk-from_err c.from_residual-in_err-hello.result _ c.from_residual-in_err-hello.ensures.0;
     }
 
 pub returns : goal.returns
 returns c =
     let frame = c.args.frame.now in
     let at = c.in-Some.at in
-    let told = c.in-ok-hello.ensures in
-    let walked = by_walk frame (omega arith) (omega arith) (sym c.is-headed.ensures ∙ c.if-not-is-headed.false) (sym c.find-hello.ensures.answer ∙ c.in-ok-at.was ∙ ap Ok c.in-Some.is) in
+    let told = c.in_ok-hello.ensures in
+    let walked = by_walk frame (omega arith) (omega arith) (sym c.is_headed.ensures ∙ c.if-not-is_headed.false) (sym c.find_hello.ensures.answer ∙ c.in_ok-at.was ∙ ap Ok c.in-Some.is) in
     let vendor : at + 2 + 18 ≡ at + 20 = omega arith in
     let uuid : at + 2 + 70 ≡ at + 72 = omega arith in
     record {

@@ -9,10 +9,10 @@ use Rattle.hello_write.proofs.Back.{writable_lengths, reads_back}
 use Rattle.hello_write.proofs.Laying.{laid_part}
 use Rattle.hello_write.proofs.frame.write.Goals as goal
 
-pub write-frame-requires : goal.write-frame-requires
-write-frame-requires c =
+pub write_frame-requires : goal.write_frame-requires
+write_frame-requires c =
     let bs = c.args.buffer.now in
-    let long = writable_lengths (means c.args.hello.now) c.in-ok-check.ensures in
+    let long = writable_lengths (means c.args.hello.now) c.in_ok-check.ensures in
     (omega (arith, ap length (take_rest bs c.args.at), length-drop c.args.at bs), (long.0, long.1))
 
 pub returns : goal.returns
@@ -20,13 +20,13 @@ returns c =
     let h = means c.args.hello.now in
     let bs = c.args.buffer.now in
     let at = c.args.at in
-    let none = c.in-ok-check.ensures in
+    let none = c.in_ok-check.ensures in
     let room : at + 125 ≤ length bs = omega arith in
     let enough = le-leb (at + 125) (length bs) room in
     let answer : write_answer h at (length bs) ≡ Ok 125 = (λ i. decided (none i) (enough i)) in
-    let bytes = laid_part at bs (frame h c.args.seconds) c.write-frame.new.part (omega arith) c.write-frame.ensures.bytes in
+    let bytes = laid_part at bs (frame h c.args.seconds) c.write_frame.new.part (omega arith) c.write_frame.ensures.bytes in
     record {
       answer = sym answer;
       buffer = bytes ∙ ap (λ r. left r at (frame h c.args.seconds) bs) (sym answer);
-      reads_back = ap (λ l. read (take 125 (drop at l))) bytes ∙ reads_back h c.write-frame.ensures.widths none c.args.seconds at bs room;
+      reads_back = ap (λ l. read (take 125 (drop at l))) bytes ∙ reads_back h c.write_frame.ensures.widths none c.args.seconds at bs room;
     }

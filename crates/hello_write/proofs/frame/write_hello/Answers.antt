@@ -8,6 +8,6 @@ pub returns : goal.returns
 returns c =
     let h = means c.args.hello.now in
     record {
-      bytes = then_part 0 2 (0xFE ∷ 0x56 ∷ []) (contents h) c.args.part.now _ c.write-contents.new.part c.put.ensures refl (omega arith) c.write-contents.ensures.bytes;
-      widths = c.write-contents.ensures.widths;
+      bytes = then_part 0 2 (0xFE ∷ 0x56 ∷ []) (contents h) c.args.part.now _ c.write_contents.new.part c.put.ensures refl (omega arith) c.write_contents.ensures.bytes;
+      widths = c.write_contents.ensures.widths;
     }

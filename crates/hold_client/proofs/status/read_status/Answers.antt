@@ -4,20 +4,20 @@ use Rattle.hold_client.specs.Held.{no_hold, status_read_told, status_reply}
 use Rattle.hold_client.proofs.Returned.{no_plan, no_hold_left, as_before, read_free, read_busy}
 use Rattle.hold_client.proofs.status.read_status.Goals as goal
 
-pub returns-in-default : goal.returns-in-default
-returns-in-default c =
-    let d = c.in-default.ensures no_plan in
+pub returns-in_default : goal.returns-in_default
+returns-in_default c =
+    let d = c.in_default.ensures no_plan in
     record {
       answer = read_busy _ _ d.left (λ s. status_reply s c.args.number) (λ _. refl) no_hold d.answered;
       node = (no_hold_left _ _ d.left d.answered).1;
     }
 
-pub returns-in-err-answer : goal.returns-in-err-answer
-returns-in-err-answer c =
+pub returns-in_err-answer : goal.returns-in_err-answer
+returns-in_err-answer c =
     let d = c.in-Ok.ensures no_plan in
-    let e = c.in-err-answer.ensures no_plan in
-    let back = c.give-back.ensures no_plan in
-    let fault = err_from_is_err_and c.from-residual.result c.from-residual.ensures.1 in
+    let e = c.in_err-answer.ensures no_plan in
+    let back = c.give_back.ensures no_plan in
+    let fault = err_from_is_err_and c.from_residual.result c.from_residual.ensures.1 in
     record {
       answer = ap status_read_told (fault.1 ∙ ap Err fault.2) ∙ e.answered ∙ read_free _ _ d.left (λ s. status_reply s c.args.number) (λ _. refl) no_hold _ d.answered;
       node = as_before _ _ d.left _ _ d.answered back.left;
@@ -26,8 +26,8 @@ returns-in-err-answer c =
 pub returns : goal.returns
 returns c =
     let d = c.in-Ok.ensures no_plan in
-    let e = c.in-ok-answer.ensures no_plan in
-    let back = c.give-back.ensures no_plan in
+    let e = c.in_ok-answer.ensures no_plan in
+    let back = c.give_back.ensures no_plan in
     record {
       answer = e.answered ∙ read_free _ _ d.left (λ s. status_reply s c.args.number) (λ _. refl) no_hold _ d.answered;
       node = as_before _ _ d.left _ _ d.answered back.left;

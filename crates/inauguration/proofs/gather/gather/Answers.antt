@@ -10,8 +10,8 @@ use Rattle.inauguration.proofs.gather.gather.Goals.{in-None, in-Some+else-not-co
 pub loop-k-init : goal.loop-k-init
 loop-k-init c = gathered_start _ _ _ _ c.new-table.ensures.live (ap length c.new-table.ensures.slots) (omega arith)
 
-pub overflow-sub-consists : goal.overflow-sub-consists
-overflow-sub-consists c = has_last c.args.held.now c.args.chain.now _ _ _ _ _ c.loop-k.invariant c.requires.0 c.requires.1 c.of-next.result _ code_blank c.loop-k-test.true c.of-next.ensures.fields c.of-next.ensures.high c.of-next.ensures.low c.in-Some.met (sym c.in-Some.ensures)
+pub overflow_sub-consists : goal.overflow_sub-consists
+overflow_sub-consists c = has_last c.args.held.now c.args.chain.now _ _ _ _ _ c.loop-k.invariant c.requires.0 c.requires.1 c.of-next.result _ code_blank c.loop-k-test.true c.of-next.ensures.fields c.of-next.ensures.high c.of-next.ensures.low c.in-Some.met (sym c.in-Some.ensures)
 
 pub returns-then-not-continues : goal.returns-then-not-continues
 returns-then-not-continues c = record {

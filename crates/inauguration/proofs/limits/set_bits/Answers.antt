@@ -5,8 +5,8 @@ use Rattle.train.specs.Rules.{set_bits}
 use Rattle.train.proofs.SetBits.{networks_are_ones}
 use Rattle.inauguration.proofs.limits.set_bits.Goals as goal
 
-pub overflow-add-bits : goal.overflow-add-bits
-overflow-add-bits c = omega (arith, ones-le 8 (get_or c.args.masks.now c.loop-mask.mask-index 0) (omega arith), c.loop-mask.invariant.1, c.requires)
+pub overflow_add-bits : goal.overflow_add-bits
+overflow_add-bits c = omega (arith, ones-le 8 (get_or c.args.masks.now c.loop-mask.mask-index 0) (omega arith), c.loop-mask.invariant.1, c.requires)
 
 pub loop-mask-preserved : goal.loop-mask-preserved
 loop-mask-preserved c =

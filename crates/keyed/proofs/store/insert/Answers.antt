@@ -8,4 +8,4 @@ pub returns : goal.returns
 returns g c =
     let count = length-take c.args.len c.args.slots.now in
     let after = length-insert (take c.args.len c.args.slots.now) c.args.at c.args.item (omega arith) in
-    record { count = omega arith; slots = insert_is c.args.slots.now c.args.len c.args.at c.args.item c.requires.0 c.requires.1 _ c.rotate-right.ensures.after }
+    record { count = omega arith; slots = insert_is c.args.slots.now c.args.len c.args.at c.args.item c.requires.0 c.requires.1 _ c.rotate_right.ensures.after }

@@ -9,7 +9,7 @@ use Rattle.report.proofs.Report.is_in_range.Goals as goal
 pub returns-then-self-nodes : goal.returns-then-self-nodes
 returns-then-self-nodes c =
     let r = c.args.self.now in
-    let told = c.if-not-is-filled.ensures in
+    let told = c.if-not-is_filled.ensures in
     let filled_so : filled r.nodes r.masks ≡ true = cc in
     let kept = filled_masks r.nodes r.masks (omega arith) filled_so in
     let long : length (take r.nodes r.masks) ≡ r.nodes = length-take r.nodes r.masks ∙ omega arith in

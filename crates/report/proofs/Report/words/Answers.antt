@@ -9,14 +9,14 @@ pub returns : goal.returns
 returns c =
     let r = c.args.self.now in
     let four : length r.masks ≡ 4 = search rules in
-    let own = c.mac-words.ensures in
-    let side1 = c.mac-words-2.ensures in
-    let side2 = c.mac-words-3.ensures in
-    let uuid = c.uuid-words.ensures in
-    let m1 = c.mask-word.ensures in
-    let m2 = c.mask-word-2.ensures in
-    let m3 = c.mask-word-3.ensures in
-    let m4 = c.mask-word-4.ensures in
+    let own = c.mac_words.ensures in
+    let side1 = c.mac_words-2.ensures in
+    let side2 = c.mac_words-3.ensures in
+    let uuid = c.uuid_words.ensures in
+    let m1 = c.mask_word.ensures in
+    let m2 = c.mask_word-2.ensures in
+    let m3 = c.mask_word-3.ensures in
+    let m4 = c.mask_word-4.ensures in
     let n = length (words (means r)) in
     (λ i. take n
     (c.word-head.result

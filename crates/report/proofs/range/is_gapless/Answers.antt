@@ -6,8 +6,8 @@ use Rattle.report.proofs.range.is_gapless.Goals as goal
 small : (c : goal.After-from-all) → c.from-all.result < 256
 small c = omega (arith, all_below _ _ _ _ c.element-fits.ranges c.element-fits2.ranges c.element-fits3.ranges c.element-fits4.ranges, c.from-all.ensures)
 
-pub overflow-add-result : goal.overflow-add-result
-overflow-add-result c = omega (arith, small c)
+pub overflow_add-result : goal.overflow_add-result
+overflow_add-result c = omega (arith, small c)
 
 pub returns : goal.returns
 returns c =

@@ -11,7 +11,7 @@ loop-place-preserved c =
     let ws = c.args.words.now in
     let n = length_asked ws in
     c.loop-place.invariant
-    ∙ right_at (asked ws) ws c.loop-place.place (λ _. false) (omega arith) (omega arith) (sym c.if-not-is-right.ensures)
+    ∙ right_at (asked ws) ws c.loop-place.place (λ _. false) (omega arith) (omega arith) (sym c.if-not-is_right.ensures)
 
 pub returns-then-place-words : goal.returns-then-place-words
 returns-then-place-words c =
@@ -19,11 +19,11 @@ returns-then-place-words c =
     let n = length_asked ws in
     record { fault = sym (c.loop-place.invariant ∙ missing_at (asked ws) ws c.loop-place.place (λ _. false) (omega arith) (omega arith)); lossless = lossless }
 
-pub returns-then-not-is-right : goal.returns-then-not-is-right
-returns-then-not-is-right c =
+pub returns-then-not-is_right : goal.returns-then-not-is_right
+returns-then-not-is_right c =
     let ws = c.args.words.now in
     let n = length_asked ws in
-    record { fault = sym (c.loop-place.invariant ∙ wrong_at (asked ws) ws c.loop-place.place (λ _. false) (omega arith) (omega arith) (sym c.if-not-is-right.ensures)); lossless = lossless }
+    record { fault = sym (c.loop-place.invariant ∙ wrong_at (asked ws) ws c.loop-place.place (λ _. false) (omega arith) (omega arith) (sym c.if-not-is_right.ensures)); lossless = lossless }
 
 pub returns-then-words-count : goal.returns-then-words-count
 returns-then-words-count c =

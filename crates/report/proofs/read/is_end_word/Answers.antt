@@ -8,5 +8,5 @@ use Rattle.report.proofs.read.is_end_word.Goals as goal
 pub returns-then-word-eq0 : goal.returns-then-word-eq0
 returns-then-word-eq0 c =
     let ws = c.args.words.now in
-    c.is-gapless.ensures ∙ ap gapless c.masks-in.ensures ∙ ap unbroken (together_padded (masks_in ws) (few_masks ws))
+    c.is_gapless.ensures ∙ ap gapless c.masks_in.ensures ∙ ap unbroken (together_padded (masks_in ws) (few_masks ws))
     ∙ sym (ap (λ b. b && gapless (masks_in ws)) (eq-eqb c.args.word 0 c.if-word-eq0.true))

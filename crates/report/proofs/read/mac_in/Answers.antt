@@ -3,4 +3,4 @@ use Rattle.report.proofs.Bits.{two_parts}
 use Rattle.report.proofs.read.mac_in.Goals as goal
 
 pub returns : goal.returns
-returns c = two_parts c.low-bits.result c.low-bits-2.result 24 (omega arith) (omega arith) ∙ omega arith
+returns c = two_parts c.low_bits.result c.low_bits-2.result 24 (omega arith) (omega arith) ∙ omega arith

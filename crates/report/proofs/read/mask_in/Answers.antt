@@ -6,7 +6,7 @@ use Rattle.report.proofs.read.mask_in.Goals as goal
 pub returns-then-i-from : goal.returns-then-i-from
 returns-then-i-from c =
     let ws = c.args.words.now in
-    c.low-bits.ensures ∙ mask_word ws (nodes_in ws) c.args.i (omega arith)
+    c.low_bits.ensures ∙ mask_word ws (nodes_in ws) c.args.i (omega arith)
 
 pub returns-else-i-from : goal.returns-else-i-from
 returns-else-i-from c =

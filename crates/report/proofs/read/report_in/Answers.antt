@@ -13,30 +13,30 @@ returns c =
     let none = c.requires in
     let counted = masks_counted ws none in
     let few = few_masks ws in
-    let n = c.nodes-in.ensures ∙ counted.0 in
-    let ms = c.masks-in.ensures in
-    let mac = c.mac-in.ensures in
-    let side1 = c.mac-in-2.ensures in
-    let side2 = c.mac-in-3.ensures in
-    let uuid = c.uuid-in.ensures in
-    let position = c.position-in.ensures in
-    let masks : take c.nodes-in.result c.masks-in.result ≡ masks_in ws = (λ i. take (n i) (ms i)) ∙ take_padded (masks_in ws) few in
+    let n = c.nodes_in.ensures ∙ counted.0 in
+    let ms = c.masks_in.ensures in
+    let mac = c.mac_in.ensures in
+    let side1 = c.mac_in-2.ensures in
+    let side2 = c.mac_in-3.ensures in
+    let uuid = c.uuid_in.ensures in
+    let position = c.position_in.ensures in
+    let masks : take c.nodes_in.result c.masks_in.result ≡ masks_in ws = (λ i. take (n i) (ms i)) ∙ take_padded (masks_in ws) few in
     let is : means (record {
-      mac = c.mac-in.result;
-      side1 = c.mac-in-2.result;
-      side2 = c.mac-in-3.result;
-      uuid = c.uuid-in.result;
-      position = c.position-in.result;
-      nodes = c.nodes-in.result;
-      masks = c.masks-in.result;
+      mac = c.mac_in.result;
+      side1 = c.mac_in-2.result;
+      side2 = c.mac_in-3.result;
+      uuid = c.uuid_in.result;
+      position = c.position_in.result;
+      nodes = c.nodes_in.result;
+      masks = c.masks_in.result;
     }) ≡ report_in ws =
     (λ i. record { mac = mac i; side1 = side1 i; side2 = side2 i; uuid = uuid i; position = position i; masks = masks i })
     in
-    let full : filled c.nodes-in.result c.masks-in.result ≡ true = (λ i. filled (n i) (ms i)) ∙ filled_padded (masks_in ws) few ∙ counted.1 in
+    let full : filled c.nodes_in.result c.masks_in.result ≡ true = (λ i. filled (n i) (ms i)) ∙ filled_padded (masks_in ws) few ∙ counted.1 in
     record {
       value = is;
       ranges =
-          and_from (leb c.nodes-in.result 4 && filled c.nodes-in.result c.masks-in.result) _
-          (and_from (leb c.nodes-in.result 4) (filled c.nodes-in.result c.masks-in.result) (le-leb c.nodes-in.result 4 (omega arith)) full)
+          and_from (leb c.nodes_in.result 4 && filled c.nodes_in.result c.masks_in.result) _
+          (and_from (leb c.nodes_in.result 4) (filled c.nodes_in.result c.masks_in.result) (le-leb c.nodes_in.result 4 (omega arith)) full)
           (ap is_report is ∙ (read_is_written ws none).0);
     }

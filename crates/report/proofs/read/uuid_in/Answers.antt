@@ -6,8 +6,8 @@ use Rattle.report.proofs.read.uuid_in.Goals as goal
 
 pub returns : goal.returns
 returns c =
-    let m = c.low-bits-middle.result in
+    let m = c.low_bits-middle.result in
     let rest : bit_and m 255 ≡ m % 256 = and_mask m 8 in
-    let high = three_parts c.low-bits.result c.low-bits-2.result (m / 256) 28 20 (omega arith) (omega arith) (omega arith) (omega arith) in
-    let low = three_parts (bit_and m 255) c.low-bits-3.result c.low-bits-4.result 28 28 (omega arith) (omega arith) (omega arith) (omega arith) in
+    let high = three_parts c.low_bits.result c.low_bits-2.result (m / 256) 28 20 (omega arith) (omega arith) (omega arith) (omega arith) in
+    let low = three_parts (bit_and m 255) c.low_bits-3.result c.low_bits-4.result 28 28 (omega arith) (omega arith) (omega arith) (omega arith) in
     omega (arith, high, low)

@@ -35,51 +35,51 @@ module _ (self : consist.Consist) (ns : List node.Node) (are : ns ≡ nodes_of s
   gaps : (b : Bool) (m : ℕ) → b ≡ unbroken m → m ≡ together (masks_of (nodes_of self)) → b ≡ gapless (masks_of ns)
   gaps b m e f = e ∙ ap unbroken (f ∙ sym (ap (λ ns. together (masks_of ns)) are))
 
-pub returns-then-is-empty : goal.returns-then-is-empty
-returns-then-is-empty c =
+pub returns-then-is_empty : goal.returns-then-is_empty
+returns-then-is_empty c =
     let ns = c.nodes-nodes.result.now in
     let self = c.args.self.now in
     let are = c.nodes-nodes.ensures in
-    let u = c.if-not-is-uuid.ensures in
-    let none : length ns ≡ 0 = eqb-true (length ns) 0 (sym c.if-is-empty.ensures) in
+    let u = c.if-not-is_uuid.ensures in
+    let none : length ns ≡ 0 = eqb-true (length ns) 0 (sym c.if-is_empty.ensures) in
     let n : false ≡ count_fits ns = ap (λ k. leb 1 k && leb k 4) (sym (length-map ns node_means ∙ none)) in
     (λ i. told (ordered (u i) (n i) (mask_fault 1 (map node_means ns)) (gapless (masks_of ns)) (leb 1 (length (macs_in (map node_means ns)))) (mac_fault 1 (map node_means ns))))
     ∙ same self ns are
 
-pub returns-in-err-check-masks : goal.returns-in-err-check-masks
-returns-in-err-check-masks c =
+pub returns-in_err-check_masks : goal.returns-in_err-check_masks
+returns-in_err-check_masks c =
     let ns = c.nodes-nodes.result.now in
     let self = c.args.self.now in
     let are = c.nodes-nodes.ensures in
-    let u = c.if-not-is-uuid.ensures in
-    let n = counted self ns are c.if-is-empty.ensures in
-    let p = err_from_is_err_and c.from-residual.result c.from-residual.ensures.1 in
-    let m = sym (told_some (mask_fault 1 (map node_means ns)) _ c.in-err-check-masks.ensures) in
+    let u = c.if-not-is_uuid.ensures in
+    let n = counted self ns are c.if-is_empty.ensures in
+    let p = err_from_is_err_and c.from_residual.result c.from_residual.ensures.1 in
+    let m = sym (told_some (mask_fault 1 (map node_means ns)) _ c.in_err-check_masks.ensures) in
     p.1 ∙ ap Err p.2
     ∙ (λ i. told (ordered (u i) (n i) (m i) (gapless (masks_of ns)) (leb 1 (length (macs_in (map node_means ns)))) (mac_fault 1 (map node_means ns))))
     ∙ same self ns are
 
-pub returns-then-not-is-gapless : goal.returns-then-not-is-gapless
-returns-then-not-is-gapless c =
+pub returns-then-not-is_gapless : goal.returns-then-not-is_gapless
+returns-then-not-is_gapless c =
     let ns = c.nodes-nodes.result.now in
     let self = c.args.self.now in
     let are = c.nodes-nodes.ensures in
-    let u = c.if-not-is-uuid.ensures in
-    let n = counted self ns are c.if-is-empty.ensures in
-    let m = sym (told_none (mask_fault 1 (map node_means ns)) c.in-ok-check-masks.ensures) in
-    let g = gaps self ns are _ c.served.result c.if-not-is-gapless.ensures c.served.ensures in
+    let u = c.if-not-is_uuid.ensures in
+    let n = counted self ns are c.if-is_empty.ensures in
+    let m = sym (told_none (mask_fault 1 (map node_means ns)) c.in_ok-check_masks.ensures) in
+    let g = gaps self ns are _ c.served.result c.if-not-is_gapless.ensures c.served.ensures in
     (λ i. told (ordered (u i) (n i) (m i) (g i) (leb 1 (length (macs_in (map node_means ns)))) (mac_fault 1 (map node_means ns)))) ∙ same self ns are
 
-pub returns-then-not-is-any-awake : goal.returns-then-not-is-any-awake
-returns-then-not-is-any-awake c =
+pub returns-then-not-is_any_awake : goal.returns-then-not-is_any_awake
+returns-then-not-is_any_awake c =
     let ns = c.nodes-nodes.result.now in
     let self = c.args.self.now in
     let are = c.nodes-nodes.ensures in
-    let u = c.if-not-is-uuid.ensures in
-    let n = counted self ns are c.if-is-empty.ensures in
-    let m = sym (told_none (mask_fault 1 (map node_means ns)) c.in-ok-check-masks.ensures) in
-    let g = gaps self ns are _ c.served.result c.if-not-is-gapless.ensures c.served.ensures in
-    let a = c.if-not-is-any-awake.ensures in
+    let u = c.if-not-is_uuid.ensures in
+    let n = counted self ns are c.if-is_empty.ensures in
+    let m = sym (told_none (mask_fault 1 (map node_means ns)) c.in_ok-check_masks.ensures) in
+    let g = gaps self ns are _ c.served.result c.if-not-is_gapless.ensures c.served.ensures in
+    let a = c.if-not-is_any_awake.ensures in
     (λ i. told (ordered (u i) (n i) (m i) (g i) (a i) (mac_fault 1 (map node_means ns)))) ∙ same self ns are
 
 pub returns : goal.returns
@@ -87,9 +87,9 @@ returns c =
     let ns = c.nodes-nodes.result.now in
     let self = c.args.self.now in
     let are = c.nodes-nodes.ensures in
-    let u = c.if-not-is-uuid.ensures in
-    let n = counted self ns are c.if-is-empty.ensures in
-    let m = sym (told_none (mask_fault 1 (map node_means ns)) c.in-ok-check-masks.ensures) in
-    let g = gaps self ns are _ c.served.result c.if-not-is-gapless.ensures c.served.ensures in
-    let a = c.if-not-is-any-awake.ensures in
-    c.check-mac-ranges.ensures ∙ (λ i. told (ordered (u i) (n i) (m i) (g i) (a i) (mac_fault 1 (map node_means ns)))) ∙ same self ns are
+    let u = c.if-not-is_uuid.ensures in
+    let n = counted self ns are c.if-is_empty.ensures in
+    let m = sym (told_none (mask_fault 1 (map node_means ns)) c.in_ok-check_masks.ensures) in
+    let g = gaps self ns are _ c.served.result c.if-not-is_gapless.ensures c.served.ensures in
+    let a = c.if-not-is_any_awake.ensures in
+    c.check_mac_ranges.ensures ∙ (λ i. told (ordered (u i) (n i) (m i) (g i) (a i) (mac_fault 1 (map node_means ns)))) ∙ same self ns are

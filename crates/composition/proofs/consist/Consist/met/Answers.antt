@@ -15,14 +15,14 @@ use Rattle.composition.proofs.consist.Consist.met.Goals.{in-Forward, in-Turned}
 abbrev stood : consist.Consist → way.Way → Coupled
 stood c w = record { consist = record { uuid = whole c.uuid; nodes = map node_means (nodes_of c) }; way = way_means w }
 
-pub overflow-cast-result : goal.overflow-cast-result
-overflow-cast-result c =
+pub overflow_cast-result : goal.overflow_cast-result
+overflow_cast-result c =
     let few = few_nodes c.args.self.now in
     let long = ap length c.nodes-nodes.ensures in
     elim c.match-self.branch [ in-Forward w ↦ omega (arith, w.place-is) | in-Turned w ↦ omega (arith, w.place-is) ]
 
-pub overflow-add-result : goal.overflow-add-result
-overflow-add-result c =
+pub overflow_add-result : goal.overflow_add-result
+overflow_add-result c =
     let few = few_nodes c.args.self.now in
     let long = ap length c.nodes-nodes.ensures in
     elim c.match-self.branch [ in-Forward w ↦ omega (arith, w.place-is) | in-Turned w ↦ omega (arith, w.place-is) ]

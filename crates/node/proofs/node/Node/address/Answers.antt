@@ -4,4 +4,4 @@ use Rattle.node.proofs.Steps.{quiet}
 use Rattle.node.proofs.node.Node.address.Goals as goal
 
 pub returns : goal.returns
-returns g c = quiet (λ _. ap (told at_address) c.address-of.ensures) refl refl
+returns g c = quiet (λ _. ap (told at_address) c.address_of.ensures) refl refl

@@ -16,7 +16,7 @@ pub returns-in-Hold : goal.returns-in-Hold
 returns-in-Hold g c = with_buffer c.args.out.now (ap calling c.in-Hold.is) c.bearing.ensures refl (λ _. refl) (c.hold.ensures _)
 
 pub returns-in-GiveBack : goal.returns-in-GiveBack
-returns-in-GiveBack g c = with_buffer c.args.out.now (ap calling c.in-GiveBack.is) refl refl (λ _. refl) (c.give-back.ensures _)
+returns-in-GiveBack g c = with_buffer c.args.out.now (ap calling c.in-GiveBack.is) refl refl (λ _. refl) (c.give_back.ensures _)
 
 pub returns-in-Status : goal.returns-in-Status
 returns-in-Status g c = with_buffer c.args.out.now (ap calling c.in-Status.is) refl refl (λ _. refl) (c.status.ensures _)

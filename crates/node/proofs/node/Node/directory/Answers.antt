@@ -6,18 +6,18 @@ use Rattle.node.proofs.Steps.{quiet, is_not}
 use Rattle.node.proofs.Directories.{says_none, says_written, leaves_none}
 use Rattle.node.proofs.node.Node.directory.Goals as goal
 
-pub returns-then-not-has-directory : goal.returns-then-not-has-directory
-returns-then-not-has-directory c _ =
-    let none = is_not _ _ c.if-not-has-directory.ensures in
+pub returns-then-not-has_directory : goal.returns-then-not-has_directory
+returns-then-not-has_directory c _ =
+    let none = is_not _ _ c.if-not-has_directory.ensures in
     quiet (λ _. says_none c.args.self.now (length c.args.out.now) none) (leaves_none (seen c.args.self.now).rows c.args.out.now none) refl
 
-pub returns-in-err-count : goal.returns-in-err-count
-returns-in-err-count c _ =
-    let some = is_not _ _ c.if-not-has-directory.ensures in
-    let told = err_from_is_err_and c.from-residual.result c.from-residual.ensures.1 in
-    quiet (λ _. ap directory_told (told.1 ∙ ap Err told.2) ∙ says_written c.args.self.now (length c.args.out.now) some _ c.in-err-count.ensures.answer) c.in-err-count.ensures.buffer refl
+pub returns-in_err-count : goal.returns-in_err-count
+returns-in_err-count c _ =
+    let some = is_not _ _ c.if-not-has_directory.ensures in
+    let told = err_from_is_err_and c.from_residual.result c.from_residual.ensures.1 in
+    quiet (λ _. ap directory_told (told.1 ∙ ap Err told.2) ∙ says_written c.args.self.now (length c.args.out.now) some _ c.in_err-count.ensures.answer) c.in_err-count.ensures.buffer refl
 
 pub returns : goal.returns
 returns c _ =
-    let some = is_not _ _ c.if-not-has-directory.ensures in
-    quiet (λ _. says_written c.args.self.now (length c.args.out.now) some _ c.in-ok-count.ensures.answer) c.in-ok-count.ensures.buffer refl
+    let some = is_not _ _ c.if-not-has_directory.ensures in
+    quiet (λ _. says_written c.args.self.now (length c.args.out.now) some _ c.in_ok-count.ensures.answer) c.in_ok-count.ensures.buffer refl

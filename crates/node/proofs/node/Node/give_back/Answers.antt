@@ -4,14 +4,14 @@ use Rattle.node.specs.Seen.{seen}
 use Rattle.node.proofs.Steps.{quiet}
 use Rattle.node.proofs.node.Node.give_back.Goals as goal
 
-pub returns-then-not-is-out : goal.returns-then-not-is-out
-returns-then-not-is-out c _ =
+pub returns-then-not-is_out : goal.returns-then-not-is_out
+returns-then-not-is_out c _ =
     let s = seen c.args.self.now in
-    let e = c.if-not-is-out.ensures in
+    let e = c.if-not-is_out.ensures in
     quiet (λ _. ap returned e) refl (ap (λ b. with_holds s (cond b (s.holds - 1) s.holds)) e)
 
 pub returns : goal.returns
 returns c _ =
     let s = seen c.args.self.now in
-    let e = c.if-not-is-out.ensures in
+    let e = c.if-not-is_out.ensures in
     quiet (λ _. ap returned e) refl (ap (λ b. with_holds s (cond b (s.holds - 1) s.holds)) e)

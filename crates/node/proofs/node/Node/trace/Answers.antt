@@ -4,4 +4,4 @@ use Rattle.node.proofs.Steps.{quiet}
 use Rattle.node.proofs.node.Node.trace.Goals as goal
 
 pub returns : goal.returns
-returns g c = quiet (λ _. ap (told device) c.device-at.ensures) refl refl
+returns g c = quiet (λ _. ap (told device) c.device_at.ensures) refl refl

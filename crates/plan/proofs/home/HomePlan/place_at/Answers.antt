@@ -2,8 +2,8 @@ use Rattle.std.proofs.Common.{rules}
 use Rattle.plan.specs.HomeLayerLemmas.{stands_as_said}
 use Rattle.plan.proofs.home.HomePlan.place_at.Goals as goal
 
-pub returns-in-err-place : goal.returns-in-err-place
-returns-in-err-place g c =
+pub returns-in_err-place : goal.returns-in_err-place
+returns-in_err-place g c =
     let plan = c.args.self.now in
     record {
       answer = search rules;

@@ -10,14 +10,14 @@ use Rattle.rehearse.proofs.held.Held.store.Goals as goal
 pub returns : goal.returns
 returns c =
     let r = c.args.report in
-    let n = c.in-ok-count.count in
+    let n = c.in_ok-count.count in
     let before = c.args.self.now in
     let table = c.new-table.result in
     let under : Report → Mac = λ x. x.mac in
     let same-slots = c.new-table.ensures.slots in
     let same_rows = c.new-table.ensures.live in
     let answer =
-    c.in-ok-count.ensures.answer
+    c.in_ok-count.ensures.answer
     ∙ ap (λ (s : List Report). store_answer by_number under r (length s) (live table)) same-slots
     ∙ ap (λ (xs : List Report). store_answer by_number under r (length before.places) xs) same_rows
     in
