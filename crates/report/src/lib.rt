@@ -10,7 +10,6 @@ mod range;
 mod read;
 mod write;
 
-use crate::key::Key;
 pub use fault::{WordFault, WriteFault};
 
 /// A MAC address, 1 to 2^48 - 1. Where a neighbour is named, 0 says that there is none.

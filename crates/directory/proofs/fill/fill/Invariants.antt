@@ -1,6 +1,6 @@
 use Rattle.std.proofs.Common.{◌≡◌, ◌+◌, ◌-◌, ◌≤◌, get_or, take, drop}
 use Rattle.report.specs.Reports.{whole}
-use Rattle.train.specs.Rows.{goal as subnet_given, rows_met}
+use Rattle.train.specs.Rows.{given as subnet_given, rows_met}
 use Rattle.directory.specs.Meaning.{rows_mean, met_means}
 use Rattle.directory.proofs.Filling.{Round, Turn, no_node, behind}
 use Rattle.directory.proofs.fill.fill.Given as goal

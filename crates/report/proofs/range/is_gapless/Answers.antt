@@ -4,7 +4,7 @@ use Rattle.report.proofs.Masks.{unbroken_carries, all_below, together_four}
 use Rattle.report.proofs.range.is_gapless.Goals as goal
 
 small : (c : goal.After-from-all) → c.from-all.result < 256
-small c = omega (arith, all_below _ _ _ _ c.element-fits.ranges c.element-fits2.ranges c.element-fits3.ranges c.element-fits4.ranges, c.from-all.ensures)
+small c = omega (arith, all_below _ _ _ _ c.element_fits.fits c.element_fits2.fits c.element_fits3.fits c.element_fits4.fits, c.from-all.ensures)
 
 pub overflow_add-result : goal.overflow_add-result
 overflow_add-result c = omega (arith, small c)
