@@ -63,7 +63,7 @@ fn device_at(directory: &Directory, place: Place) -> Option<Device>
 
 /// The address that the plan gives to the place of a device.
 pub fn address<P: Plan>(directory: &Directory, plan: &P, device: Device) -> Result<u32, Refused>
-    ensures answer { address_told result ≡ addressed (serves plan.now) (rows_of directory.now) (device_means device) }
+    ensures answer { address_told result ≡ addressed (P.serves plan.now) (rows_of directory.now) (device_means device) }
     ensures own { OwnAddress }
 {
     if !is_in_force(directory) {
@@ -80,7 +80,7 @@ pub fn address<P: Plan>(directory: &Directory, plan: &P, device: Device) -> Resu
 
 /// The device whose place has this address.
 pub fn trace<P: Plan>(directory: &Directory, plan: &P, address: u32) -> Result<Device, Refused>
-    ensures answer { trace_told result ≡ traced (stands plan.now) (rows_of directory.now) address }
+    ensures answer { trace_told result ≡ traced (P.stands plan.now) (rows_of directory.now) address }
     ensures own { OwnAddress }
 {
     if !is_in_force(directory) {

@@ -13,7 +13,7 @@ ghost use Rattle.composition.specs.Gathering.{nowhere, met_of, nodes_mean, Laid,
 use crate::Consist;
 use directory::{Directory, MetNode, Way};
 use report::Uuid;
-use report::key::Key;
+use keyed::Key;
 use std::cmp::Ordering;
 
 /// The most nodes of a line within the limits.
@@ -38,7 +38,7 @@ fn is_left_first(consists: &[Consist]) -> bool
     ensures { result ≡ nat_lt (left (described consists.now)) (left (flip (described consists.now))) }
 {
     let last = consists.len() - 1;
-    match UuidKey::compare(&consists[0].uuid, &consists[last].uuid) {
+    match consists[0].uuid.compare(&consists[last].uuid) {
         Ordering::Less => true,
         _ => false,
     }

@@ -11,7 +11,7 @@ ghost use Rattle.composition.specs.Faults.{told, mask_fault, mac_fits, mac_fault
 ghost use Rattle.composition.specs.Exact.{Exactly};
 
 use crate::{Consist, ConsistFault, ConsistRule, LineFault, Node};
-use report::key::Key;
+use keyed::Key;
 use report::{Mac, Uuid};
 use std::cmp::Ordering;
 
@@ -114,7 +114,7 @@ fn has_uuid(consists: &[Consist], uuid: Uuid) -> bool
     ensures { result ≡ among (whole uuid) (flat_map uuid_row (described consists.now)) }
 {
     for consist in consists {
-        if let Ordering::Equal = UuidKey::compare(&consist.uuid, &uuid) {
+        if let Ordering::Equal = consist.uuid.compare(&uuid) {
             return true;
         }
     }

@@ -32,7 +32,7 @@ returns c =
     let k = c.loop-step.step in
     let long = length_standing s ∙ length-map (nodes_of consist) node_means ∙ sym (ap length c.nodes-step-end.ensures) in
     let past : length (standing s) ≤ k = omega (arith, long) in
-    let end : c.args.at + length (standing s) ≡ c.args.at + k = omega (arith, long, c.loop-step.auto.step_end) in
+    let end : c.args.at + length (standing s) ≡ c.args.at + k = omega (arith, long, c.loop-step.auto.step-end) in
     let nodes = c.loop-step.nodes in
     record {
       front = ap (λ n. nodes_mean (take n nodes)) end ∙ sym (append-nil (nodes_mean (take (c.args.at + k) nodes)))
