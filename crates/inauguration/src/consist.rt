@@ -7,7 +7,6 @@ ghost use Rattle.inauguration.specs.Consists.{consist_of, masks_of, goes};
 
 use directory::Way;
 use keyed::Record;
-use report::key::Key as _;
 use report::{Report, Uuid};
 
 /// Its UUID, masks and way round, and the position of its node met last.

@@ -12,7 +12,6 @@ use crate::chain::{Chain, ROOM};
 use crate::consist::{Consist, NO_CONSIST, same_uuid};
 use keyed::Table;
 use report::Report;
-use report::key::Key;
 
 /// Consists in the order in which the chain meets them.
 #[derive(Clone, Copy)]

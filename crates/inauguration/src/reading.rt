@@ -16,7 +16,6 @@ use crate::gather::Consists;
 use directory::{MetNode, Way};
 use keyed::Key;
 use report::Uuid;
-use report::key::Key as _;
 use std::cmp::Ordering;
 
 /// Nodes in the order in which they are met.

@@ -6,7 +6,6 @@ ghost use Rattle.node.specs.Seen.{seen};
 
 use directory::Directory;
 use keyed::Table;
-use report::key::Key;
 use report::{Mac, Report};
 
 /// A node holds no more reports than this.

@@ -56,14 +56,14 @@ impl Node<'_> {
 
     /// As the directory and the plan say.
     fn address_of<P: Plan>(&self, plan: &P, device: Device) -> Result<u32, Refused>
-        ensures { address_told result ≡ addressed (serves plan.now) (seen self.now).rows (device_means device) }
+        ensures { address_told result ≡ addressed (P.serves plan.now) (seen self.now).rows (device_means device) }
     {
         addressing::address(&self.directory, plan, device)
     }
 
     /// As the plan and the directory say.
     fn device_at<P: Plan>(&self, plan: &P, address: u32) -> Result<Device, Refused>
-        ensures { trace_told result ≡ traced (stands plan.now) (seen self.now).rows address }
+        ensures { trace_told result ≡ traced (P.stands plan.now) (seen self.now).rows address }
     {
         addressing::trace(&self.directory, plan, address)
     }

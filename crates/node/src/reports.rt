@@ -14,7 +14,6 @@ ghost use Rattle.node.specs.Told.{through_told, keep_told, take_told, silence_to
 use crate::fault::{TakeFault, Unknown};
 use crate::node::Node;
 use keyed::{Full, Table};
-use report::key::Key;
 use report::{Mac, Report};
 
 /// The report in the words, unless its neighbours are crossed.
