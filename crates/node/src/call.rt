@@ -55,7 +55,7 @@ fn bearing(hold: Result<Hold, Busy>) -> Result<Mac, Busy>
 impl Node<'_> {
     /// Makes the call.
     pub(crate) fn call<P: Plan>(&mut self, plan: &P, call: Call<'_>, out: &mut [u8]) -> Answer
-        ensures { Step (record { serves = serves plan.now; stands = stands plan.now }) (seen self.old) (event (calling call.entry) (answer_told result) out.old out.new) (seen self.new) }
+        ensures { Step (record { serves = P.serves plan.now; stands = P.stands plan.now }) (seen self.old) (event (calling call.entry) (answer_told result) out.old out.new) (seen self.new) }
     {
         match call {
             Call::Take(words) => Answer::Taken(self.take(words)),

@@ -98,14 +98,14 @@ impl Node<'_> {
 
     /// The address that the plan gives to a device.
     pub fn address<P: Plan>(&self, plan: &P, device: Device) -> Result<u32, Refused>
-        ensures { Does (record { serves = serves plan.now; stands = stands plan.now }) (seen self.now) (ask_address (device_means device)) (address_answer result) (seen self.now) }
+        ensures { Does (record { serves = P.serves plan.now; stands = P.stands plan.now }) (seen self.now) (ask_address (device_means device)) (address_answer result) (seen self.now) }
     {
         self.address_of(plan, device)
     }
 
     /// The device that has the address under the plan.
     pub fn trace<P: Plan>(&self, plan: &P, address: u32) -> Result<Device, Refused>
-        ensures { Does (record { serves = serves plan.now; stands = stands plan.now }) (seen self.now) (ask_trace address) (trace_answer result) (seen self.now) }
+        ensures { Does (record { serves = P.serves plan.now; stands = P.stands plan.now }) (seen self.now) (ask_trace address) (trace_answer result) (seen self.now) }
     {
         self.device_at(plan, address)
     }

@@ -46,7 +46,7 @@ impl Node<'_> {
     /// Makes the call, and records it.
     fn record<P: Plan>(&mut self, plan: &P, call: Call<'_>, out: &mut [u8]) -> Recorded
         requires { length out.old ≤ 2560 }
-        ensures step { Step (record { serves = serves plan.now; stands = stands plan.now }) (seen self.old) (event (calling call.entry) (answer_told result.answer) out.old out.new) (seen self.new) }
+        ensures step { Step (record { serves = P.serves plan.now; stands = P.stands plan.now }) (seen self.old) (event (calling call.entry) (answer_told result.answer) out.old out.new) (seen self.new) }
         ensures output { output_of result ≡ out.new }
     {
         let answer = self.call(plan, call, out);
@@ -68,7 +68,7 @@ fn play<P: Plan>(
     records: &mut [Recorded],
 ) -> usize
     requires { length output.old ≤ 2560 }
-    ensures { Plays (record { serves = serves plan.now; stands = stands plan.now }) mac.0 (length memory.old) calls.now output.old output.new records.old records.new result }
+    ensures { Plays (record { serves = P.serves plan.now; stands = P.stands plan.now }) mac.0 (length memory.old) calls.now output.old output.new records.old records.new result }
 {
     let count = calls.len().min(records.len());
     let mut node = Node::start(mac, memory);
@@ -87,7 +87,7 @@ fn play_within<P: Plan>(
     output: &mut [u8],
     records: &mut [Recorded],
 ) -> usize
-    ensures plays { Plays (record { serves = serves plan.now; stands = stands plan.now }) mac.0 (length memory.old) calls.now (used output.old) (used output.new) records.old records.new result }
+    ensures plays { Plays (record { serves = P.serves plan.now; stands = P.stands plan.now }) mac.0 (length memory.old) calls.now (used output.old) (used output.new) records.old records.new result }
     ensures unused { drop 2560 output.new ≡ drop 2560 output.old }
 {
     let room = output.len().min(ROOM);
@@ -96,9 +96,9 @@ fn play_within<P: Plan>(
 
 /// Plays both nodes, each from a fresh start, and answers how many calls of each were played and recorded.
 pub fn rehearse<P: Plan>(plan: &P, first: Player<'_>, second: Player<'_>) -> (usize, usize)
-    ensures first { PlayedSo (record { serves = serves plan.now; stands = stands plan.now }) first.entry first.exit.1.0.now first.exit.0.now result.0 }
-    ensures second { PlayedSo (record { serves = serves plan.now; stands = stands plan.now }) second.entry second.exit.1.0.now second.exit.0.now result.1 }
-    ensures promise { RightAndAgreeing (record { serves = serves plan.now; stands = stands plan.now }) (played first.entry first.exit.0.now result.0) (played second.entry second.exit.0.now result.1) }
+    ensures first { PlayedSo (record { serves = P.serves plan.now; stands = P.stands plan.now }) first.entry first.exit.1.0.now first.exit.0.now result.0 }
+    ensures second { PlayedSo (record { serves = P.serves plan.now; stands = P.stands plan.now }) second.entry second.exit.1.0.now second.exit.0.now result.1 }
+    ensures promise { RightAndAgreeing (record { serves = P.serves plan.now; stands = P.stands plan.now }) (played first.entry first.exit.0.now result.0) (played second.entry second.exit.0.now result.1) }
     ensures cases { WorkedCases }
 {
     let Player {
