@@ -19,7 +19,7 @@ use Rattle.directory.proofs.Readings.{line_undo}
 use Rattle.plan.specs.Places.{Exists, placed}
 use Rattle.plan.specs.Meaning.{Lawful}
 use Rattle.addressing.specs.Devices.{Device, host, node, through, device_place, device_at}
-use Rattle.addressing.specs.Addressing.{no_directory, absent, in_force, addressed, traced}
+use Rattle.addressing.specs.Addressing.{no_directory, absent, in_force}
 use Rattle.addressing.specs.OwnAddresses.{HasPlace, OwnAddresses, OwnAddress}
 use Rattle.addressing.proofs.Positions.{counted_map, map_counted, position_own}
 use Rattle.addressing.proofs.Places.{placed_there, placed_is, placed_exists, through_some, some_same, device_back}

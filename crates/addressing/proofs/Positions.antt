@@ -1,5 +1,5 @@
 -- The position that the rows of a line give to a node is the node's own. Assumes nothing.
-use Rattle.std.proofs.Common.{◌≡◌, ℕ, suc, ◌+◌, ◌≤◌, min, max, eqb, ◌⊎◌, List, [], ◌∷◌, ◌++◌, map, reverse, length, filter, sym, refl, ap, ◌∙◌, subst, inl, inr, ⊎_elim, arith}
+use Rattle.std.proofs.Common.{◌≡◌, ℕ, suc, ◌+◌, ◌≤◌, min, max, eqb, ◌⊎◌, List, [], ◌∷◌, ◌++◌, map, reverse, length, filter, sym, ap, ◌∙◌, subst, inl, inr, ⊎_elim, arith}
 use mathlib.Core.List.{reverse-cons}
 use Rattle.std.proofs.lemmas.List.{length-map, length-reverse}
 use Rattle.std.proofs.lemmas.Bool.{eqb-true, eq-eqb}
@@ -8,7 +8,7 @@ use Rattle.train.specs.Truth.{In, here, there}
 use Rattle.train.specs.Rules.{Different, uuids, IsLine}
 use Rattle.train.specs.Rows.{reading, counted, Met, nodes_in, met_in, met, placed_nodes, Row, rows}
 use Rattle.train.specs.Theorems.{NumberedLine, PlacedLine}
-use Rattle.train.proofs.Members.{not_in, in_cases, in_map, of_map, of_joined, of_kept, in_kept, of_reverse, all_in, counted_cases, counted_in, length_counted, some_count, one_element}
+use Rattle.train.proofs.Members.{not_in, in_cases, in_map, of_map, of_joined, of_kept, in_kept, of_reverse, all_in, counted_cases, counted_in, length_counted, some_count}
 use Rattle.train.proofs.Places.{node_at, met_of, met_of_consist, place}
 use Rattle.train.proofs.Reading.{reading_is_line}
 use Rattle.directory.specs.Asked.{lowest, highest, nodes_of, position, position_in}

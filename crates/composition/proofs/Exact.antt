@@ -1,14 +1,14 @@
 -- No rule is broken exactly where this is a line within the limits. Assumes nothing.
-use Rattle.std.proofs.Common.{◌≡◌, ℕ, suc, ◌+◌, ◌^◌, ◌<◌, ◌≤◌, Bool, true, false, not, ◌&&◌, ◌||◌, eqb, leb, ◌⊎◌, List, [], ◌∷◌, ◌++◌, map, reverse, length, is_ok, Some, None, Ok, Err, Decides, Option, Result, sym, refl, ap, ◌∙◌, subst, ap₂, inl, inr, ⊎_elim, arith}
+use Rattle.std.proofs.Common.{◌≡◌, ℕ, suc, ◌+◌, ◌^◌, ◌≤◌, Bool, true, false, not, ◌&&◌, eqb, leb, ◌⊎◌, List, [], ◌∷◌, ◌++◌, map, reverse, length, is_ok, Some, None, Option, Result, sym, refl, ap, ◌∙◌, subst, ap₂, inl, inr, ⊎_elim, arith}
 use mathlib.Core.List.{map-append}
 use Rattle.std.specs.Option.{option_map}
 use Rattle.std.specs.List.{flat_map, AllByRecursion as All}
 use Rattle.std.proofs.lemmas.List.{length-reverse, length-map, reverse-reverse, append-nil, append_assoc}
-use Rattle.std.proofs.lemmas.Bool.{and_parts, and_from, leb-true, le-leb, ltb-true, lt-ltb, eqb-true, eqb-false, eq-eqb, ne_eqb, or_parts, or_from, not-true, false≢true, true≢false}
+use Rattle.std.proofs.lemmas.Bool.{and_parts, and_from, leb-true, le-leb, ltb-true, lt-ltb, eqb-false, ne_eqb, or_parts, or_from, not-true}
 use Rattle.report.specs.Masks.{is_mask, gapless}
 use Rattle.report.specs.Reports.{is_mac, is_uuid}
 use Rattle.train.specs.Line.{Way, forward, turned, Node, Consist, masks, Coupled, Line}
-use Rattle.train.specs.Truth.{In, Awake, awake_from, awake_of, awake}
+use Rattle.train.specs.Truth.{Awake, awake_from, awake_of, awake}
 use Rattle.train.specs.Rules.{Different, uuids, macs, IsMac, IsUuid, IsConsist, IsLine, node_count, network_count, bit_count, Within}
 use Rattle.train.proofs.Flip.{awake_at, awake_up}
 use Rattle.train.proofs.Members.{map_reverse, all_reverse, different_reverse, different_append}

@@ -1,5 +1,5 @@
 -- The consists and the nodes that the reading of a line meets. Assumes nothing.
-use Rattle.std.proofs.Common.{◌≡◌, ℕ, ◌+◌, ◌-◌, ◌<◌, ◌≤◌, Bool, true, false, cond, not, eqb, ltb, List, [], ◌∷◌, ◌++◌, map, reverse, length, get_or, take, filter, sym, refl, ap, ◌∙◌, subst, ap₂, arith}
+use Rattle.std.proofs.Common.{◌≡◌, ℕ, ◌+◌, ◌-◌, ◌<◌, ◌≤◌, Bool, true, cond, not, eqb, ltb, List, [], ◌∷◌, ◌++◌, map, reverse, length, get_or, take, filter, sym, refl, ap, ◌∙◌, ap₂, arith}
 use mathlib.Core.List.{map-append}
 use Rattle.std.specs.List.{flat_map, AllByRecursion as All}
 use Rattle.std.proofs.lemmas.List.{get_or-map, get_or-reverse, length-map, length-reverse, take_all}
@@ -7,7 +7,7 @@ use Rattle.std.proofs.lemmas.Bool.{ne_eqb}
 use Rattle.report.specs.Reports.{whole}
 use Rattle.train.specs.Line.{Way, forward, turned, Node, Consist, masks, Coupled, Line, turn, flip}
 use Rattle.train.specs.Rules.{networks, IsConsist, IsLine, Within}
-use Rattle.train.specs.Rows.{left, reading, counted, Met, nodes_in, met_in, met, Meeting, meetings, numbered, rows_met, rows}
+use Rattle.train.specs.Rows.{left, reading, counted, Met, nodes_in, met_in, met, meetings, numbered, rows_met, rows}
 use Rattle.train.proofs.Limits.{limits_suffice}
 use Rattle.train.proofs.Members.{map_reverse, all_reverse}
 use Rattle.train.proofs.Reading.{of_reading, reading_is_line}

@@ -1,18 +1,18 @@
 -- The nodes of a consist as they are met from the left. Assumes nothing.
-use Rattle.std.proofs.Common.{◌≡◌, ℕ, zero, suc, ◌+◌, ◌-◌, ◌<◌, ◌≤◌, true, List, [], ◌∷◌, ◌++◌, map, reverse, length, get_or, drop, is_some, Some, None, Option, unwrap_or, sym, refl, ap, ◌∙◌, ap₂, arith}
+use Rattle.std.proofs.Common.{◌≡◌, ℕ, zero, suc, ◌+◌, ◌-◌, ◌<◌, true, List, [], ◌∷◌, ◌++◌, map, reverse, length, get_or, drop, is_some, Some, None, Option, unwrap_or, sym, refl, ap, ◌∙◌, ap₂, arith}
 use mathlib.Core.List.{reverse-cons, reverse-append}
 use Rattle.std.specs.Option.{option_map}
 use Rattle.std.specs.List.{flat_map}
-use Rattle.std.proofs.lemmas.List.{append-nil, append_assoc, at_drop_more, get_or-reverse, get_or-map, length-map, length-reverse}
+use Rattle.std.proofs.lemmas.List.{append-nil, append_assoc, at_drop_more, get_or-reverse, length-map, length-reverse}
 use Rattle.report.specs.declared.Mac.{Mac}
-use Rattle.train.specs.Line.{Way, forward, turned, Node, Consist, masks, Coupled}
+use Rattle.train.specs.Line.{Way, forward, turned, Node, Consist, Coupled}
 use Rattle.train.specs.Truth.{Awake, awake_from, awake_of, first_mac}
 use Rattle.train.specs.Rows.{counted}
-use Rattle.train.proofs.Flip.{awake_at, awake_up}
+use Rattle.train.proofs.Flip.{awake_at}
 use Rattle.train.proofs.Members.{length_counted}
 use Rattle.composition.specs.declared.consist.Node as node
 use Rattle.composition.specs.Meaning.{node_means}
-use Rattle.composition.specs.Standing.{standing, nobody, awake_node, woken, awake_in, first_awake, next_mac}
+use Rattle.composition.specs.Standing.{standing, nobody, woken, awake_in, first_awake, next_mac}
 use Rattle.composition.proofs.Steps.{no_node}
 
 joined_append : {A B : Type 0} (f : A → List B) (xs ys : List A) → flat_map f (xs ++ ys) ≡ flat_map f xs ++ flat_map f ys

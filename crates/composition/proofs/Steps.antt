@@ -1,9 +1,8 @@
 -- The steps of the loops over nodes and over consists. Assumes nothing.
-use Rattle.std.proofs.Common.{◌≡◌, ℕ, ◌+◌, ◌-◌, ◌<◌, ◌≤◌, Bool, true, false, cond, not, ◌&&◌, ◌||◌, eqb, leb, List, [], ◌∷◌, ◌++◌, map, length, get_or, take, drop, is_some, Some, None, Ok, Err, Option, Result, sym, refl, ap, ◌∙◌, arith}
-use mathlib.Core.List.{map-append}
+use Rattle.std.proofs.Common.{◌≡◌, ℕ, ◌+◌, ◌-◌, ◌<◌, ◌≤◌, Bool, true, false, not, ◌||◌, eqb, leb, List, [], ◌∷◌, ◌++◌, map, length, get_or, take, drop, is_some, Some, None, Ok, Err, Option, sym, refl, ap, ◌∙◌, arith}
 use Rattle.std.specs.Option.{option_map}
 use Rattle.std.specs.List.{flat_map}
-use Rattle.std.proofs.lemmas.List.{at_drop_more, take_more, map_more, flat_map_more, length-take, append_assoc, append-nil}
+use Rattle.std.proofs.lemmas.List.{at_drop_more, map_more, flat_map_more, length-take, append_assoc, append-nil}
 use Rattle.std.proofs.lemmas.Bool.{leb-true, cond_both}
 use Rattle.report.specs.declared.Mac.{Mac}
 use Rattle.report.specs.Masks.{is_mask}
@@ -14,7 +13,6 @@ use Rattle.composition.specs.declared.consist.Node as node
 use Rattle.composition.specs.declared.consist.Consist as consist
 use Rattle.composition.specs.declared.fault.ConsistRule.{ConsistRule}
 use Rattle.composition.specs.declared.fault.ConsistRule.TheVariants.{NoNetwork, WrongMac}
-use Rattle.composition.specs.declared.fault.ConsistFault.{ConsistFault}
 use Rattle.composition.specs.Meaning.{node_means, nodes_of, consist_means, described}
 use Rattle.composition.specs.Faults.{told, or_else, unless, mask_fault, mac_then, macs_in, mac_fits, mac_fault, consist_fault, consists_fault, among, repeats, twice_at, uuid_row, mac_row}
 

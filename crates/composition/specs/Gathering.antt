@@ -1,8 +1,7 @@
 -- The nodes that the reading of a line meets, and its directory. Assumes nothing.
-use Rattle.std.specs.Prelude.{◌≡◌, ℕ, ◌+◌, List, [], ◌∷◌, ◌++◌, map, length, take, Some, None, Ok, Err, Option, Result}
-use Rattle.std.specs.List.{flat_map}
+use Rattle.std.specs.Prelude.{◌≡◌, ℕ, ◌+◌, List, [], ◌++◌, map, length, take, Some, None, Ok, Err, Result}
 use Rattle.train.specs.Line.{forward, Node, Coupled, Line}
-use Rattle.train.specs.Rows.{reading, Met, Row, rows}
+use Rattle.train.specs.Rows.{Met, Row, rows}
 use Rattle.directory.specs.declared.directory.Directory.{Directory}
 use Rattle.directory.specs.declared.row.MetNode.{MetNode}
 use Rattle.directory.specs.Meaning.{met_means, rows_of}

@@ -1,5 +1,5 @@
 -- The true reports of a line in a buffer. Assumes nothing.
-use Rattle.std.specs.Prelude.{◌≡◌, ℕ, ◌+◌, ◌/◌, ◌%◌, ◌^◌, cond, List, [], ◌∷◌, ◌++◌, map, length, take, drop, Ok, Err, Result, nat_le}
+use Rattle.std.specs.Prelude.{◌≡◌, ℕ, ◌+◌, ◌/◌, ◌%◌, ◌^◌, cond, List, ◌++◌, map, length, take, drop, Ok, Err, Result, nat_le}
 use Rattle.report.specs.declared.Report as code
 use Rattle.report.specs.Reading.{padded}
 use Rattle.report.specs.Reports.{Report}

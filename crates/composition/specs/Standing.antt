@@ -1,5 +1,5 @@
 -- The nodes of a consist as they are met from the left, and the reports of those that are awake. Assumes nothing.
-use Rattle.std.specs.Prelude.{ℕ, List, [], ◌∷◌, ◌++◌, reverse, Some, None, Option}
+use Rattle.std.specs.Prelude.{ℕ, List, [], ◌∷◌, reverse, Some, None, Option}
 use Rattle.std.specs.List.{flat_map}
 use Rattle.report.specs.Reports.{Report}
 use Rattle.train.specs.Line.{forward, turned, Node, masks, Coupled}

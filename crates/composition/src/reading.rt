@@ -12,8 +12,8 @@ ghost use Rattle.composition.specs.Gathering.{nowhere, met_of, nodes_mean, Laid,
 
 use crate::Consist;
 use directory::{Directory, MetNode, Way};
-use report::Uuid;
 use keyed::Key;
+use report::Uuid;
 use std::cmp::Ordering;
 
 /// The most nodes of a line within the limits.

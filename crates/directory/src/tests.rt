@@ -47,10 +47,10 @@ fn bytes(rt: HostRuntime) {
     let directory = Directory::of(&TRAIN);
     let mut out = [0xEE; 81];
     assert_eq!(rt; directory.write(&mut out), Ok(4));
-    assert_eq!(rt; &out[15..20], &[0xA, 1, 1, 1, 2]);
-    assert_eq!(rt; &out[35..40], &[0xA, 2, 2, 1, 2]);
-    assert_eq!(rt; &out[55..60], &[0xA, 1, 1, 2, 2]);
-    assert_eq!(rt; &out[75..81], &[0xB, 1, 3, 3, 1, 0xEE]);
+    assert_eq!(rt; &out[15..20], [0xA, 1, 1, 1, 2].as_slice());
+    assert_eq!(rt; &out[35..40], [0xA, 2, 2, 1, 2].as_slice());
+    assert_eq!(rt; &out[55..60], [0xA, 1, 1, 2, 2].as_slice());
+    assert_eq!(rt; &out[75..81], [0xB, 1, 3, 3, 1, 0xEE].as_slice());
     assert_eq!(rt; directory.write(&mut out[0..79]), Err(Short));
 }
 

@@ -1,16 +1,16 @@
 -- What each answer of an inauguration says of the lines that fit. Assumes nothing.
-use Rattle.std.proofs.Common.{◌≡◌, ℕ, ◌<◌, ◌≤◌, Bool, true, false, cond, not, ◌&&◌, ltb, leb, ◌⊎◌, List, [], ◌∷◌, length, take, Some, None, Ok, Err, Option, Result, sym, refl, ap, ◌∙◌, subst, ap₂, inl, inr, ⊎_elim, arith}
+use Rattle.std.proofs.Common.{◌≡◌, ℕ, ◌<◌, ◌≤◌, Bool, true, false, cond, not, leb, ◌⊎◌, List, [], ◌∷◌, length, take, Some, None, Ok, Err, Option, Result, sym, refl, ap, ◌∙◌, subst, ap₂, inl, inr, ⊎_elim, arith}
 use Rattle.std.specs.List.{AllByRecursion as All}
-use Rattle.std.proofs.lemmas.Bool.{ne_eqb, leb-true, ltb-true, le-leb, and_parts, and_from, both_ways, cases_Bool}
+use Rattle.std.proofs.lemmas.Bool.{ne_eqb, leb-true, ltb-true, le-leb, and_parts, and_from, both_ways}
 use Rattle.report.specs.Masks.{is_mask, all_masks}
-use Rattle.report.specs.Reports.{Report, is_mac, macs_fit, is_report}
+use Rattle.report.specs.Reports.{Report, is_mac, is_report}
 use Rattle.train.specs.Line.{Line, flip}
 use Rattle.train.specs.Truth.{Awake, awake, report, first_mac, reports, In, here, there, Fits}
-use Rattle.train.specs.Rules.{Different, macs, IsMac, IsUuid, IsLine, node_count, network_count, bit_count, Within}
+use Rattle.train.specs.Rules.{macs, IsMac, IsLine, Within}
 use Rattle.train.specs.Rows.{Met, met, reading, Row, rows_met, rows}
 use Rattle.directory.specs.Meaning.{serving}
 use Rattle.train.specs.Agreement.{Agree}
-use Rattle.train.proofs.Members.{not_in, in_cases, in_map, all_in}
+use Rattle.train.proofs.Members.{not_in, in_cases}
 use Rattle.train.proofs.Fit.{flip_is_line}
 use Rattle.train.proofs.Reading.{reading_is_line, rows_flip}
 use Rattle.train.proofs.Meetings.{Masked}

@@ -1,21 +1,21 @@
 -- Every line is assembled from its awake nodes, and any chain of reports tells whether they fit a line. Assumes nothing.
-use Rattle.std.proofs.Common.{◌≡◌, ℕ, ◌+◌, ◌<◌, ◌≤◌, true, false, cond, ◌⊎◌, List, [], ◌∷◌, ◌++◌, map, reverse, length, Some, None, Option, sym, refl, ap, ◌∙◌, subst, ap₂, inl, inr, ⊎_elim, append_assoc, arith}
+use Rattle.std.proofs.Common.{◌≡◌, ℕ, ◌+◌, ◌<◌, ◌≤◌, true, false, cond, ◌⊎◌, List, [], ◌∷◌, ◌++◌, length, Some, None, Option, sym, refl, ap, ◌∙◌, subst, ap₂, inl, inr, ⊎_elim, append_assoc, arith}
 use mathlib.Core.List.{reverse_aux, map-append}
 use Rattle.std.specs.List.{AllByRecursion as All}
-use Rattle.std.proofs.lemmas.List.{length-map, length-reverse}
-use Rattle.std.proofs.ByRecursion.{All-append, All-weaker, All-map}
+use Rattle.std.proofs.lemmas.List.{length-map}
+use Rattle.std.proofs.ByRecursion.{All-append, All-weaker}
 use Rattle.std.proofs.lemmas.Bool.{eq-eqb, ne_eqb, lt-ltb, ltb-true, and_from, or_from}
 use Rattle.report.specs.Masks.{gapless}
 use Rattle.report.specs.Reports.{Report}
 use Rattle.train.specs.Line.{Way, forward, turned, Node, Consist, Coupled, Line, masks, flip}
 use Rattle.train.specs.Truth.{Awake, awake_from, awake_of, awake, first_mac, reports, In, here, there, Fits}
-use Rattle.train.specs.Rules.{Different, uuids, macs, IsUuid, IsConsist, IsLine}
+use Rattle.train.specs.Rules.{Different, uuids, IsUuid, IsConsist, IsLine}
 use Rattle.train.proofs.Members.{in_right, all_in, all_reverse}
 use Rattle.train.proofs.Flip.{flip_flip, awake_at, awake_up, awake_flip, flip_awake, flip_awake_twice, first_flip, flip_fits}
 use Rattle.train.proofs.SameAwake.{Of, of_awake, all_later, line_same}
 use Rattle.train.proofs.Chain.{OneEach, OwnMacs, Chains, one_each, an_end, first_report, chains_same}
 use Rattle.train.proofs.Fit.{flip_is_line, some_awake_in, line_macs, fits_chain}
-use Rattle.fitting.specs.Assemble.{same_way, same_masks, among, behind, begun, Part, goes_on, grown, next, put, all_of, put_all, first_part, assemble}
+use Rattle.fitting.specs.Assemble.{same_way, same_masks, among, behind, Part, goes_on, grown, next, put, all_of, put_all, first_part, assemble}
 use Rattle.fitting.proofs.Wake.{wake_masks, asleep_masks}
 use Rattle.fitting.proofs.Assembling.{IsNode, Nodes, assemble_sound}
 

@@ -1,7 +1,7 @@
 -- The tests for neighbours tell what they say, for reports with MACs of their own. Assumes nothing.
-use Rattle.std.proofs.Common.{◌≡◌, ℕ, ◌<◌, Bool, true, false, cond, ◌||◌, eqb, ◌⊎◌, List, [], ◌∷◌, get_or, Some, None, Option, sym, refl, ap, ◌∙◌, subst, ap₂, inl, inr, ⊎_elim, arith}
+use Rattle.std.proofs.Common.{◌≡◌, ℕ, Bool, true, false, cond, ◌||◌, eqb, ◌⊎◌, List, [], ◌∷◌, get_or, Some, None, Option, sym, refl, ap, ◌∙◌, subst, inl, inr, ⊎_elim, arith}
 use mathlib.Core.Bool.{false≢true}
-use Rattle.std.proofs.lemmas.Bool.{eqb-true, eqb-false, eq-eqb, ne_eqb, cases_Bool, both_ways, and_parts, and_from, or_parts}
+use Rattle.std.proofs.lemmas.Bool.{eqb-true, eqb-false, eq-eqb, cases_Bool, both_ways, and_parts, and_from}
 use Rattle.report.specs.Reports.{Report}
 use Rattle.train.specs.Truth.{In, here, there}
 use Rattle.fitting.specs.Neighbours.{blank, place_of, is_some, is_held, names, names_at, is_backed, is_firm, loose_of, loose, IsLoose, Names, Backed, Firm, NoLoose}

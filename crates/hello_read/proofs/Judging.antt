@@ -1,5 +1,5 @@
 -- What the checks of a frame make of the answer. Assumes nothing.
-use Rattle.std.proofs.Common.{◌≡◌, ℕ, ◌<◌, ◌≤◌, true, false, cond, ◌⊎◌, List, length, drop, Some, None, Err, Option, Result, sym, ap, ◌∙◌, inl, inr, arith}
+use Rattle.std.proofs.Common.{◌≡◌, ℕ, ◌<◌, ◌≤◌, true, cond, ◌⊎◌, List, length, drop, Some, None, Err, Option, Result, sym, ap, ◌∙◌, inl, inr, arith}
 use Rattle.std.proofs.lemmas.Bool.{le-leb, lt-leb}
 use Rattle.hello_read.specs.declared.fault.FieldFault.{FieldFault}
 use Rattle.hello_read.specs.declared.fault.TlvFault.{TlvFault}

@@ -1,7 +1,7 @@
 -- A hold that is granted and returned leaves the node as it was. Assumes nothing.
-use Rattle.std.proofs.Common.{◌≡◌, ℕ, ◌+◌, ◌-◌, ◌<◌, Bool, true, false, cond, ◌&&◌, eqb, ltb, None, Ok, Err, sym, refl, ap, ◌∙◌, subst, arith}
+use Rattle.std.proofs.Common.{◌≡◌, ℕ, ◌+◌, ◌-◌, Bool, true, false, cond, ltb, None, Ok, Err, sym, refl, ap, ◌∙◌, arith}
 use Rattle.std.proofs.lemmas.Bool.{eq-eqb, lt-ltb, and_from}
-use Rattle.runs.specs.Calls.{State, Meaning, Answer, told, granted, refused, busy, hold, give_back, with_holds, is_returned, after, hold_answer}
+use Rattle.runs.specs.Calls.{State, Meaning, told, granted, refused, busy, hold, give_back, with_holds, after, hold_answer}
 use Rattle.hold_client.specs.Held.{if_free}
 
 -- any plan

@@ -4,7 +4,6 @@ use crate::{Refused, inaugurate};
 use directory::Directory;
 use report::{Mac, Report, Uuid};
 use std::process::Abort;
-use std::test::Fail;
 
 /// The report of a node with these neighbours on side 1 and side 2, at position 1 of 2, say, of a consist with these masks.
 fn told(mac: u64, sides: [u64; 2], uuid: u64, place: [u8; 2], masks: [u8; 2]) -> Report {
@@ -36,21 +35,13 @@ fn refused(own: u64, held: &[Report]) -> Option<Refused> {
 }
 
 /// Row `i` in the bytes of a directory ends with this low byte of the UUID and this word.
-fn row_ends_with(rt: &impl Abort, bytes: &[u8], i: usize, end: [u8; 5]) -> Result<(), Fail> {
-    match bytes.get(20 * i.min(127) + 15..20 * i.min(127) + 20) {
-        Some(row) => {
-            assert_eq!(rt; row, &end);
-            Ok(())
-        },
-        None => {
-            assert!(rt; false);
-            Ok(())
-        },
-    }
+fn row_ends_with(rt: &impl Abort, bytes: &[u8], i: usize, end: [u8; 5]) {
+    let row = bytes.get(20 * i.min(127) + 15..20 * i.min(127) + 20);
+    assert_eq!(rt; row.expect(rt, "a row"), end.as_slice());
 }
 
 #[test]
-fn two_units_give_one_directory_at_both_nodes(rt: HostRuntime) -> Result<(), Fail> {
+fn two_units_give_one_directory_at_both_nodes(rt: HostRuntime) {
     let a = told(0x11, [0x21, 0], 0xA, [1, 2], [1, 3]);
     let b = only(0x21, [0x11, 0], 0xB);
     for (own, held) in [
@@ -59,39 +50,31 @@ fn two_units_give_one_directory_at_both_nodes(rt: HostRuntime) -> Result<(), Fai
         (0x11, [b, a]),
         (0x21, [b, a]),
     ] {
-        let Ok(directory) = inaugurate(Mac(own), &held) else {
-            assert!(rt; false);
-            return Ok(());
-        };
+        let directory = inaugurate(Mac(own), &held).expect(&rt, "a directory");
         let mut bytes = [0; 80];
         assert_eq!(rt; directory.row_count(), 4);
         assert!(rt; directory.write(&mut bytes).is_ok());
-        row_ends_with(&rt, &bytes, 0, [0xA, 1, 1, 1, 2])?;
-        row_ends_with(&rt, &bytes, 1, [0xA, 2, 2, 1, 2])?;
-        row_ends_with(&rt, &bytes, 2, [0xA, 1, 1, 2, 2])?;
-        row_ends_with(&rt, &bytes, 3, [0xB, 1, 3, 3, 1])?;
+        row_ends_with(&rt, &bytes, 0, [0xA, 1, 1, 1, 2]);
+        row_ends_with(&rt, &bytes, 1, [0xA, 2, 2, 1, 2]);
+        row_ends_with(&rt, &bytes, 2, [0xA, 1, 1, 2, 2]);
+        row_ends_with(&rt, &bytes, 3, [0xB, 1, 3, 3, 1]);
         assert_eq!(rt; directory.counter(), 0x17F1_44A7);
     }
-    Ok(())
 }
 
 #[test]
-fn a_lone_consist_is_read_forward(rt: HostRuntime) -> Result<(), Fail> {
+fn a_lone_consist_is_read_forward(rt: HostRuntime) {
     let first = told(0x11, [0, 0x12], 0xA, [1, 2], [1, 3]);
     let second = told(0x12, [0x11, 0], 0xA, [2, 2], [1, 3]);
     for held in [[first, second], [second, first]] {
-        let Ok(directory) = inaugurate(Mac(0x11), &held) else {
-            assert!(rt; false);
-            return Ok(());
-        };
+        let directory = inaugurate(Mac(0x11), &held).expect(&rt, "a directory");
         let mut bytes = [0; 60];
         assert_eq!(rt; directory.row_count(), 3);
         assert!(rt; directory.write(&mut bytes).is_ok());
-        row_ends_with(&rt, &bytes, 0, [0xA, 1, 1, 1, 1])?;
-        row_ends_with(&rt, &bytes, 1, [0xA, 1, 1, 2, 1])?;
-        row_ends_with(&rt, &bytes, 2, [0xA, 2, 2, 2, 1])?;
+        row_ends_with(&rt, &bytes, 0, [0xA, 1, 1, 1, 1]);
+        row_ends_with(&rt, &bytes, 1, [0xA, 1, 1, 2, 1]);
+        row_ends_with(&rt, &bytes, 2, [0xA, 2, 2, 2, 1]);
     }
-    Ok(())
 }
 
 #[test]
@@ -194,7 +177,7 @@ fn directory_at(own: u64, held: &[Report]) -> Directory {
 
 /// The consist with the smaller UUID has the larger MAC at its end, until the node at its end 1 wakes up.
 #[test]
-fn a_late_node_changes_nothing(rt: HostRuntime) -> Result<(), Fail> {
+fn a_late_node_changes_nothing(rt: HostRuntime) {
     let end = told(0x01, [0, 0x90], 0x5, [1, 2], [1, 3]);
     let awake = told(0x90, [0x01, 0x10], 0x5, [2, 2], [1, 3]);
     let first = told(0x90, [0, 0x10], 0x5, [2, 2], [1, 3]);
@@ -203,13 +186,12 @@ fn a_late_node_changes_nothing(rt: HostRuntime) -> Result<(), Fail> {
     let mut bytes = [0; 80];
     assert_eq!(rt; before.row_count(), 4);
     assert!(rt; before.write(&mut bytes).is_ok());
-    row_ends_with(&rt, &bytes, 0, [0x5, 1, 1, 1, 1])?;
-    row_ends_with(&rt, &bytes, 3, [0xA, 1, 3, 3, 1])?;
+    row_ends_with(&rt, &bytes, 0, [0x5, 1, 1, 1, 1]);
+    row_ends_with(&rt, &bytes, 3, [0xA, 1, 3, 3, 1]);
     assert!(rt; before.same(&directory_at(0x90, &[first, other])));
     for own in [0x01, 0x10, 0x90] {
         assert!(rt; before.same(&directory_at(own, &[other, awake, end])));
     }
-    Ok(())
 }
 
 /// The report of the first node of a consist, forward, with so many nodes of one mask; the MAC to its left is one less.

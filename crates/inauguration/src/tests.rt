@@ -2,7 +2,6 @@
 
 use crate::{Refused, inaugurate};
 use report::{Mac, Report, Uuid};
-use std::test::Fail;
 
 /// A node of a consist of one or two nodes; its neighbours are on side 1 and on side 2.
 fn told(mac: u64, sides: [u64; 2], uuid: u64, position: u8, nodes: u8) -> Report {
@@ -28,20 +27,12 @@ fn refused(own: u64, held: &[Report]) -> Option<Refused> {
 }
 
 #[test]
-fn two_consists_give_a_directory(rt: HostRuntime) -> Result<(), Fail> {
+fn two_consists_give_a_directory(rt: HostRuntime) {
     let a = told(0x11, [0x21, 0], 0xA, 1, 2);
     let b = told(0x21, [0x11, 0], 0xB, 1, 1);
     assert_eq!(rt; refused(0x11, &[a, b]), None);
-    match inaugurate(Mac(0x11), &[a, b]) {
-        Ok(directory) => {
-            assert_eq!(rt; directory.counter(), 0x17F1_44A7);
-            Ok(())
-        },
-        Err(_) => {
-            assert!(rt; false);
-            Ok(())
-        },
-    }
+    let directory = inaugurate(Mac(0x11), &[a, b]).expect(&rt, "a directory");
+    assert_eq!(rt; directory.counter(), 0x17F1_44A7);
 }
 
 #[test]

@@ -103,7 +103,7 @@ fn a_new_key_goes_to_its_place(rt: HostRuntime) {
     assert_eq!(rt; table.store(dark(7)), Ok(1));
     assert_eq!(rt; table.store(dark(5)), Ok(2));
     assert_eq!(rt; table.store(dark(6)), Ok(3));
-    assert_eq!(rt; table.records(), &[dark(5), dark(6), dark(7)]);
+    assert_eq!(rt; table.records(), [dark(5), dark(6), dark(7)].as_slice());
 }
 
 #[test]
@@ -120,7 +120,7 @@ fn a_new_key_is_refused_when_every_place_is_taken(rt: HostRuntime) {
     let mut slots = [dark(5), dark(7)];
     let mut table = Table::new(&mut slots, 2);
     assert_eq!(rt; table.store(dark(6)), Err(Full));
-    assert_eq!(rt; table.records(), &[dark(5), dark(7)]);
+    assert_eq!(rt; table.records(), [dark(5), dark(7)].as_slice());
 }
 
 #[test]
@@ -131,7 +131,7 @@ fn a_removed_place_is_used_again(rt: HostRuntime) {
     assert_eq!(rt; table.remove(&Number { value: 5 }), None);
     assert_eq!(rt; table.len(), 1);
     assert_eq!(rt; table.store(dark(9)), Ok(2));
-    assert_eq!(rt; table.records(), &[dark(7), dark(9)]);
+    assert_eq!(rt; table.records(), [dark(7), dark(9)].as_slice());
 }
 
 #[test]
@@ -139,7 +139,7 @@ fn the_high_half_decides_first(rt: HostRuntime) {
     let mut slots = [packed(2, 0); 2];
     let mut table = Table::new(&mut slots, 1);
     assert_eq!(rt; table.store(packed(1, 9)), Ok(2));
-    assert_eq!(rt; table.records(), &[packed(1, 9), packed(2, 0)]);
+    assert_eq!(rt; table.records(), [packed(1, 9), packed(2, 0)].as_slice());
     assert_eq!(rt; table.find(&Halves { high: 2, low: 0 }), Some(packed(2, 0)));
     assert_eq!(rt; table.find(&Halves { high: 1, low: 0 }), None);
 }

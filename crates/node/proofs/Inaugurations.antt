@@ -1,14 +1,13 @@
 -- An inauguration is a step. Assumes nothing.
-use Rattle.std.proofs.Common.{◌≡◌, ℕ, Bool, true, false, cond, List, [], map, take, Ok, Err, Result, sym, refl, ap, ◌∙◌, subst, arith}
+use Rattle.std.proofs.Common.{◌≡◌, ℕ, Bool, true, false, cond, List, [], Ok, Err, Result, sym, refl, ap, ◌∙◌, arith}
 use Rattle.std.proofs.lemmas.List.{take-map}
 use Rattle.keyed.specs.Table.{live}
 use Rattle.counter.specs.Crc.{crc}
 use Rattle.report.specs.declared.Report as code
-use Rattle.report.specs.Reports.{Report, means}
+use Rattle.report.specs.Reports.{means}
 use Rattle.report.specs.Refusals.{Refusal}
 use Rattle.train.specs.Bytes.{rows_bytes}
 use Rattle.train.specs.Rows.{Row}
-use Rattle.directory.specs.declared.directory.Directory.{Directory}
 use Rattle.fitting.specs.Neighbours.{IsLoose}
 use Rattle.fitting.specs.Answer.{loosely, answer}
 use Rattle.inauguration.specs.declared.refused.Refused.{Refused}

@@ -1,5 +1,5 @@
 -- A list of calls that is played and recorded one by one. Assumes nothing.
-use Rattle.std.proofs.Common.{◌≡◌, ℕ, suc, ◌+◌, ◌<◌, ◌≤◌, min, List, [], ◌∷◌, ◌++◌, map, length, get_or, drop, set, sym, refl, ap, ◌∙◌, subst, inl, inr, arith, length-set}
+use Rattle.std.proofs.Common.{◌≡◌, ℕ, ◌+◌, ◌<◌, ◌≤◌, min, List, [], ◌∷◌, ◌++◌, map, length, get_or, drop, set, sym, refl, ap, ◌∙◌, subst, inl, inr, arith, length-set}
 use lib.ListN as list
 use Rattle.std.proofs.lemmas.List.{append-nil, take_more, take_more_set, take_all, take_at, drop_all, drop_at, map_push, length-map, length-take, length-drop, length-append, drop-set-lt, drop-drop}
 use Rattle.std.proofs.lemmas.Bool.{cases_lt}
@@ -8,7 +8,6 @@ use Rattle.runs.specs.Calls as model
 use Rattle.runs.specs.Histories.{History}
 use Rattle.runs.specs.Promise.{Comes, events}
 use Rattle.node.specs.declared.call.Call.{Call}
-use Rattle.node.specs.declared.call.Answer.{Answer}
 use Rattle.node.specs.declared.rehearsal.Recorded.{Recorded}
 use Rattle.node.specs.Recorded.{calling, answer_told, output_of, recorded, last_output, used, Plays}
 

@@ -1,14 +1,13 @@
 -- One call is a step. Assumes nothing.
-use Rattle.std.proofs.Common.{◌≡◌, ℕ, Bool, true, false, cond, not, List, [], length, Some, None, Ok, Err, Option, Result, sym, refl, ap, ◌∙◌, subst, arith}
+use Rattle.std.proofs.Common.{◌≡◌, ℕ, Bool, true, false, cond, not, List, length, Some, None, Ok, Err, Option, sym, refl, ap, ◌∙◌, subst, arith}
 use Rattle.std.proofs.lemmas.Bool.{true≢false, false≢true}
 use Rattle.report.specs.Reports.{Report}
 use Rattle.train.specs.Line.{Line}
 use Rattle.train.specs.Truth.{Awake}
-use Rattle.train.specs.Rows.{Row}
 use Rattle.fitting.specs.Neighbours.{is_held, loose, IsLoose}
 use Rattle.fitting.specs.Walk.{chain_of}
 use Rattle.fitting.specs.Assemble.{assemble}
-use Rattle.fitting.specs.Answer.{mute, loosely, split, mixed, long, is_within, shown_rows, line_answer, chain_answer, firm_answer, answer}
+use Rattle.fitting.specs.Answer.{mute, loosely, long, is_within, shown_rows, line_answer, chain_answer, firm_answer, answer}
 use Rattle.fitting.proofs.Loose.{one_loose}
 use Rattle.runs.specs.Calls.{State, Meaning, Call, Answer, looked_at, reply, after, writes, event, Step, Does}
 

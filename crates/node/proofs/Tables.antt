@@ -1,5 +1,5 @@
 -- The table of reports, in what its reports mean. Assumes nothing.
-use Rattle.std.proofs.Common.{◌≡◌, ℕ, Bool, true, false, cond, List, map, length, take, Ok, Err, Option, Result, Ordering, sym, refl, ap, ◌∙◌, ap₂}
+use Rattle.std.proofs.Common.{◌≡◌, ℕ, Bool, true, false, cond, List, map, length, take, Ok, Err, Result, Ordering, sym, refl, ap, ◌∙◌, ap₂}
 use Rattle.std.specs.Option.{option_map}
 use Rattle.std.proofs.lemmas.List.{length-map}
 use Rattle.keyed.specs.declared.store.Full.{Full}
@@ -14,8 +14,7 @@ use Rattle.keyed.proofs.Carried.{found_map, removed_map, stored_map, refused_map
 use Rattle.report.specs.declared.Mac.{Mac}
 use Rattle.report.specs.declared.Report as code
 use Rattle.report.specs.Reports.{Report, means}
-use Rattle.report.specs.Refusals.{Refusal}
-use Rattle.runs.specs.Calls.{State, own_mac, full, stored_count, holding}
+use Rattle.runs.specs.Calls.{own_mac, full, stored_count, holding}
 use Rattle.node.specs.declared.node.Node.{Node}
 use Rattle.node.specs.Seen.{held_in, room_of, seen}
 use Rattle.node.specs.Told.{keep_told}

@@ -1,5 +1,5 @@
 -- Calls and answers as they are listed and recorded, and what was played of a list. Assumes nothing.
-use Rattle.std.specs.Prelude.{◌≡◌, ℕ, min, Bool, List, [], ◌∷◌, map, length, drop, Ok, Err, Result}
+use Rattle.std.specs.Prelude.{◌≡◌, ℕ, min, List, [], ◌∷◌, map, length, drop, Ok, Err, Result}
 use Rattle.std.proofs.Math.ListN as list
 use Rattle.report.specs.declared.Mac.{Mac}
 use Rattle.addressing.specs.Devices.{device_means}

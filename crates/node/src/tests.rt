@@ -4,7 +4,6 @@ use crate::*;
 use addressing::{Device, Refused};
 use plan::{Plan, Train};
 use report::{Mac, Report, Uuid, WordFault};
-use std::test::Fail;
 
 const A: Uuid = Uuid { high: 0, low: 0xA };
 
@@ -190,49 +189,36 @@ fn reports_that_give_no_directory(rt: HostRuntime) {
 }
 
 #[test]
-fn a_hold_bars_a_change(rt: HostRuntime) -> Result<(), Fail> {
+fn a_hold_bars_a_change(rt: HostRuntime) {
     let mut memory = [FREE; 2];
     let mut node = Node::start(Mac(0x11), &mut memory);
     assert_eq!(rt; node.take(&REPORT_A), Ok(1));
     assert_eq!(rt; node.take(&REPORT_B), Ok(2));
-    let Ok(hold) = node.hold() else {
-        return Err(Fail::new("no hold"));
-    };
+    let hold = node.hold().expect(&rt, "a hold");
     let barred = node.inaugurate();
     let back = node.give_back(hold);
     assert_eq!(rt; barred, Err(InaugurationFault::Barred));
     assert_eq!(rt; back, true);
     assert_eq!(rt; node.inaugurate(), Ok(COUNTER));
-    let Ok(hold) = node.hold() else {
-        return Err(Fail::new("no hold"));
-    };
+    let hold = node.hold().expect(&rt, "a hold");
     let again = node.inaugurate();
     assert_eq!(rt; node.give_back(hold), true);
     assert_eq!(rt; again, Ok(COUNTER), "the directory found is in force");
-    Ok(())
 }
 
 #[test]
-fn sixteen_holds_are_out(rt: HostRuntime) -> Result<(), Fail> {
+fn sixteen_holds_are_out(rt: HostRuntime) {
     let mut memory = [FREE; 1];
     let mut other_memory = [FREE; 1];
     let mut node = Node::start(Mac(0x11), &mut memory);
     let mut other = Node::start(Mac(0x21), &mut other_memory);
     for _ in 0..16 {
-        let Ok(hold) = node.hold() else {
-            return Err(Fail::new("no hold"));
-        };
+        let hold = node.hold().expect(&rt, "a hold");
         assert_eq!(rt; other.give_back(hold), false);
     }
     match node.hold() {
-        Ok(hold) => {
-            assert_eq!(rt; node.give_back(hold), false);
-            Ok(())
-        },
-        Err(fault) => {
-            assert_eq!(rt; fault, Busy);
-            Ok(())
-        },
+        Ok(hold) => assert_eq!(rt; node.give_back(hold), false),
+        Err(fault) => assert_eq!(rt; fault, Busy),
     }
 }
 

@@ -1,17 +1,17 @@
 -- Words and reports say the same. Assumes nothing.
-use Rattle.std.proofs.Common.{◌≡◌, ℕ, zero, suc, ◌+◌, ◌*◌, ◌/◌, ◌%◌, ◌^◌, ◌<◌, ◌≤◌, min, Bool, true, false, ◌&&◌, eqb, ltb, leb, List, [], ◌∷◌, ◌++◌, map, length, get_or, take, drop, replicate, Some, None, Ok, Err, Option, Result, sym, refl, ap, ◌∙◌, subst, arith}
+use Rattle.std.proofs.Common.{◌≡◌, ℕ, zero, suc, ◌+◌, ◌*◌, ◌/◌, ◌%◌, ◌^◌, ◌<◌, ◌≤◌, min, Bool, true, false, ◌&&◌, eqb, ltb, leb, List, [], ◌∷◌, ◌++◌, map, length, get_or, take, drop, replicate, Some, None, Ok, Err, Option, sym, refl, ap, ◌∙◌, subst, arith}
 use Rattle.std.proofs.lemmas.List.{take_at, length-append, length-drop, length-map, length-take}
 use Rattle.std.proofs.lemmas.Bool.{and_parts, and_from, eqb-true, leb-true, ltb-true, le-leb, lt-ltb}
 use Rattle.report.specs.declared.fault.WordFault.{WordFault}
 use Rattle.report.specs.declared.fault.WordFault.TheVariants.{Missing, Wrong, Extra}
 use Rattle.report.specs.Masks.{is_mask, all_masks, gapless}
 use Rattle.report.specs.Reports.{Report, is_mac, is_neighbour, is_uuid, macs_fit, place_fits, masks_fit, is_report}
-use Rattle.report.specs.Refusals.{Refusal, garbled, word_refusal}
+use Rattle.report.specs.Refusals.{Refusal, garbled}
 use Rattle.report.specs.Layout.{word, words}
 use Rattle.report.specs.Reading.{nodes_in, position_in, mac_in, uuid_in, masks_in, report_in, of, head, mask_word, end_word, before, behind, asked, right, first_wrong, answer, read}
 use Rattle.report.specs.Lossless.{Lossless}
 use Rattle.report.proofs.Steps.{goes, passed, ended, Pass, pass, place, found_first}
-use Rattle.report.proofs.Values.{of_facts, of_word, Headed, headed, head_word, joined, halves, mac_back, gathered, fifths, uuid_back}
+use Rattle.report.proofs.Values.{of_facts, of_word, headed, head_word, joined, halves, mac_back, gathered, fifths, uuid_back}
 
 -- ---- the masks and the end word
 

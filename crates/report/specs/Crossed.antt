@@ -1,5 +1,5 @@
 -- Reports whose neighbours cannot be: of no place in a line. Assumes nothing.
-use Rattle.std.specs.Prelude.{◌≡◌, ℕ, ◌<◌, Bool, not, ◌&&◌, ◌||◌, ◌⊎◌, [], ◌==◌}
+use Rattle.std.specs.Prelude.{◌≡◌, ◌<◌, Bool, not, ◌&&◌, ◌||◌, ◌⊎◌, [], ◌==◌}
 use Rattle.report.specs.Reports.{Report}
 use Rattle.report.specs.Refusals.{Refusal}
 

@@ -1,5 +1,5 @@
 -- Words and reports say the same. Assumes nothing.
-use Rattle.std.specs.Prelude.{◌≡◌, ℕ, ◌<◌, true, false, List, Ok, Err, Result, ◌≢◌}
+use Rattle.std.specs.Prelude.{◌≡◌, ℕ, ◌<◌, true, false, List, Ok, Err, ◌≢◌}
 use Rattle.report.specs.Reports.{Report, is_report}
 use Rattle.report.specs.Refusals.{Refusal, garbled}
 use Rattle.report.specs.Layout.{words}

@@ -1,5 +1,5 @@
 -- What the writer answers, and what it leaves in the buffer. Assumes nothing.
-use Rattle.std.specs.Prelude.{ℕ, Bool, cond, ◌&&◌, List, length, Ok, Err, Result, nat_le}
+use Rattle.std.specs.Prelude.{ℕ, cond, ◌&&◌, List, length, Ok, Err, Result, nat_le}
 use Rattle.keyed.specs.Table.{written}
 use Rattle.report.specs.declared.Report as code
 use Rattle.report.specs.Reports.{means, in_range}

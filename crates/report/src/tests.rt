@@ -1,5 +1,4 @@
 use crate::*;
-use std::test::Fail;
 
 /// Two nodes, of which this one stands first; node 21 is on its side 1.
 const ROW: [u32; 15] = [
@@ -66,14 +65,13 @@ fn refused_at(words: &[u32]) -> Option<usize> {
 }
 
 #[test]
-fn a_row_is_read_and_written_again(rt: HostRuntime) -> Result<(), Fail> {
-    let report = Report::read(&ROW)?;
+fn a_row_is_read_and_written_again(rt: HostRuntime) {
+    let report = Report::read(&ROW).expect(&rt, "a report");
     assert_eq!(rt; report, REPORT);
     let mut out = [7u32; 16];
     assert_eq!(rt; report.write(&mut out), Ok(15));
     assert_eq!(rt; &out[0..15], &ROW[0..15]);
     assert_eq!(rt; out[15], 7, "what lies behind stays");
-    Ok(())
 }
 
 #[test]

@@ -1,14 +1,13 @@
 -- What is promised of two nodes holds of every run. Assumes nothing.
-use Rattle.std.proofs.Common.{◌≡◌, ℕ, ◌*◌, ◌<◌, ◌≤◌, Bool, true, false, cond, ◌⊎◌, List, [], ◌∷◌, ◌++◌, map, length, Ok, Err, Result, sym, refl, ap, ◌∙◌, subst, inl, inr, arith}
+use Rattle.std.proofs.Common.{◌≡◌, ℕ, ◌*◌, ◌≤◌, Bool, true, false, cond, List, [], ◌∷◌, ◌++◌, map, length, Ok, Err, Result, sym, refl, ap, ◌∙◌, subst, inl, inr, arith}
 use Rattle.std.proofs.lemmas.Bool.{cases_lt}
 use Rattle.keyed.specs.Table.{written}
 use Rattle.counter.specs.Crc.{crc}
-use Rattle.report.specs.Refusals.{Refusal, short}
+use Rattle.report.specs.Refusals.{Refusal}
 use Rattle.train.specs.Line.{Line}
 use Rattle.train.specs.Truth.{In}
-use Rattle.train.specs.Rows.{Row, counted, Met, met, reading, placed_nodes, rows as line_rows}
+use Rattle.train.specs.Rows.{Row, counted, Met, met, reading, rows as line_rows}
 use Rattle.train.specs.Bytes.{rows_bytes, counter as line_counter}
-use Rattle.train.specs.Agreement.{Agree}
 use Rattle.train.proofs.Agreed.{one_directory}
 use Rattle.directory.specs.Writing.{write_leaves}
 use Rattle.fitting.specs.Neighbours.{IsLoose}
@@ -17,10 +16,10 @@ use Rattle.plan.specs.Meaning.{Lawful}
 use Rattle.addressing.specs.Devices.{Device, host, node}
 use Rattle.addressing.specs.Addressing.{addressed}
 use Rattle.addressing.specs.OwnAddresses.{HasPlace}
-use Rattle.runs.specs.Calls.{State, fresh, Meaning, Call, take, silence, inaugurate, hold, give_back, directory, status, address, trace, Answer, counter, rows, at_address, device, refused, barred, told, bars, directory_answer, named, decided, looked_at, reply, after, writes, Event, event, Step}
+use Rattle.runs.specs.Calls.{State, Meaning, Call, take, silence, inaugurate, hold, give_back, directory, status, address, trace, Answer, counter, rows, at_address, device, barred, told, bars, directory_answer, looked_at, reply, after, writes, Event, event, Step}
 use Rattle.runs.specs.Histories.{History, Part, Accepted, LastAccepted, LineFits, LastLine, InForce, Bars}
-use Rattle.runs.specs.Right.{RightInaugurate, RightDirectory, HasAddress, RightAnswer, Right}
-use Rattle.runs.specs.Promise.{Run, Played, history, Next, NodeRight, OwnAddressAt, SameTrain, NodesAgree, RightAndAgreeing, EveryRun}
+use Rattle.runs.specs.Right.{RightInaugurate, HasAddress, RightAnswer, Right}
+use Rattle.runs.specs.Promise.{Run, Played, history, NodeRight, OwnAddressAt, NodesAgree, EveryRun}
 use Rattle.runs.proofs.Holding.{answer_kind, fits_held}
 use Rattle.runs.proofs.Forces.{force_now, force_line, same_last, one_rows, some_row}
 use Rattle.runs.proofs.Holds.{out_is, holds_step}

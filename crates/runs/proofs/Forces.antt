@@ -1,6 +1,5 @@
 -- The directory in force, as a history grows by one event, and what fixes it. Assumes nothing.
-use Rattle.std.proofs.Common.{◌≡◌, ℕ, ◌≤◌, ◌⊎◌, List, [], ◌∷◌, ◌++◌, length, sym, refl, ap, ◌∙◌, subst, inl, inr, arith}
-use Rattle.std.specs.List.{AllByRecursion as All}
+use Rattle.std.proofs.Common.{◌≡◌, ℕ, ◌≤◌, List, [], ◌∷◌, ◌++◌, length, sym, refl, ap, ◌∙◌, subst, inl, inr, arith}
 use Rattle.report.specs.Refusals.{Refusal}
 use Rattle.train.specs.Line.{Line}
 use Rattle.train.specs.Rules.{IsLine}
@@ -8,7 +7,7 @@ use Rattle.train.specs.Rows.{Row, rows as line_rows}
 use Rattle.train.specs.Bytes.{counter as line_counter}
 use Rattle.train.proofs.Agreed.{one_directory}
 use Rattle.train.proofs.Numbered.{numbered}
-use Rattle.runs.specs.Calls.{Call, inaugurate, Answer, counter, refused, Event}
+use Rattle.runs.specs.Calls.{refused, Event}
 use Rattle.runs.specs.Histories.{History, Accepted, NoneAccepted, LastAccepted, LineFits, LastLine, InForce}
 use Rattle.runs.proofs.Holding.{call_kind, answer_kind, fits_held}
 

@@ -1,5 +1,5 @@
 -- What is held, as a history grows by one event. Assumes nothing.
-use Rattle.std.proofs.Common.{◌≡◌, ℕ, ◌≤◌, ◌⊎◌, List, [], ◌∷◌, ◌++◌, None, Ok, Err, Result, sym, refl, ap, ◌∙◌, subst, inl, inr, arith}
+use Rattle.std.proofs.Common.{◌≡◌, ℕ, ◌≤◌, ◌⊎◌, List, [], ◌∷◌, ◌++◌, None, Ok, Result, sym, refl, ap, ◌∙◌, subst, inl, inr, arith}
 use Rattle.std.specs.List.{AllByRecursion as All}
 use Rattle.keyed.specs.Orders.{numbers}
 use Rattle.keyed.specs.Find.{found}
@@ -7,10 +7,9 @@ use Rattle.keyed.specs.Store.{stored}
 use Rattle.keyed.specs.Remove.{removed}
 use Rattle.report.specs.Reports.{Report}
 use Rattle.report.specs.Refusals.{Refusal}
-use Rattle.report.specs.Reading.{read}
 use Rattle.report.proofs.Lossless.{lossless}
 use Rattle.train.specs.Line.{Line}
-use Rattle.train.specs.Truth.{In, Fits}
+use Rattle.train.specs.Truth.{In}
 use Rattle.fitting.specs.Theorems.{AreReports, Fitting}
 use Rattle.fitting.proofs.Found.{in_none}
 use Rattle.fitting.proofs.Steps.{none_some}

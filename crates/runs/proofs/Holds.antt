@@ -1,11 +1,11 @@
 -- The holds out, as a history grows by one event. Assumes nothing.
-use Rattle.std.proofs.Common.{◌≡◌, ℕ, ◌+◌, ◌-◌, ◌<◌, ◌≤◌, Bool, true, false, cond, ◌&&◌, eqb, ltb, List, [], ◌∷◌, length, Ok, Err, Result, sym, refl, ap, ◌∙◌, inl, inr, arith}
-use Rattle.std.proofs.lemmas.Bool.{cases_Bool, and_parts, ltb-true, ltb-false}
+use Rattle.std.proofs.Common.{◌≡◌, ℕ, ◌+◌, ◌-◌, ◌<◌, ◌≤◌, Bool, true, false, cond, eqb, ltb, ◌∷◌, Ok, Err, Result, sym, refl, ap, ◌∙◌, arith}
+use Rattle.std.proofs.lemmas.Bool.{and_parts, ltb-true}
 use Rattle.report.specs.Refusals.{Refusal}
 use Rattle.counter.specs.Crc.{crc}
 use Rattle.train.specs.Bytes.{rows_bytes}
 use Rattle.addressing.specs.Addressing.{addressed, traced}
-use Rattle.runs.specs.Calls.{State, Meaning, Call, take, silence, inaugurate, hold, give_back, directory, status, address, trace, Answer, held, counter, granted, returned, rows, node, at_address, device, refused, busy, told, take_answer, silence_answer, inaugurated, hold_answer, is_returned, directory_answer, status_answer, is_awake, reply, after, Event}
+use Rattle.runs.specs.Calls.{State, Meaning, Call, take, silence, inaugurate, hold, give_back, directory, status, address, trace, Answer, held, counter, granted, returned, rows, node, at_address, device, refused, busy, told, take_answer, silence_answer, inaugurated, is_returned, directory_answer, status_answer, is_awake, reply, after, Event}
 use Rattle.runs.specs.Histories.{History, is_grant, is_return, count, out}
 use Rattle.runs.proofs.Holding.{answer_kind}
 

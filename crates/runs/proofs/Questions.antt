@@ -1,24 +1,22 @@
 -- Each answer to a question, and about holds, is right for the events before it. Assumes nothing.
-use Rattle.std.proofs.Common.{◌≡◌, ℕ, ◌*◌, ◌<◌, ◌≤◌, Bool, true, false, cond, ◌&&◌, ◌||◌, eqb, ltb, leb, ◌⊎◌, List, [], ◌∷◌, length, Some, None, Ok, Err, Option, Result, sym, refl, ap, ◌∙◌, subst, inl, inr, arith}
-use Rattle.std.proofs.lemmas.Bool.{cases_Bool, cond-true, cond-false, and_parts, and_from, and_left, and_right, or_cases, or_left, or_right, eqb-true, eqb-false, eq-eqb, ne_eqb, lt-ltb, le-ltb, le-leb, lt-leb, false≢true}
-use Rattle.keyed.specs.Table.{written}
+use Rattle.std.proofs.Common.{◌≡◌, ℕ, ◌*◌, ◌≤◌, Bool, true, false, cond, ◌&&◌, eqb, ltb, leb, List, [], ◌∷◌, length, Ok, Err, Result, sym, ap, ◌∙◌, inl, inr, arith}
+use Rattle.std.proofs.lemmas.Bool.{cases_Bool, cond-true, cond-false, and_parts, and_from, and_left, and_right, or_cases, or_left, or_right, eqb-true, eq-eqb, ne_eqb, lt-ltb, le-ltb, le-leb, lt-leb, false≢true}
 use Rattle.report.specs.Reports.{Report}
 use Rattle.report.specs.Refusals.{Refusal, short}
 use Rattle.train.specs.Line.{Line}
 use Rattle.train.specs.Truth.{In, here, there}
-use Rattle.train.specs.Rows.{Row, counted, placed_nodes, rows as line_rows}
-use Rattle.train.specs.Bytes.{rows_bytes}
+use Rattle.train.specs.Rows.{Row, rows as line_rows}
 use Rattle.directory.specs.Asked.{place_of}
 use Rattle.directory.specs.Writing.{write_answer, write_leaves}
 use Rattle.fitting.proofs.Found.{in_cases, in_none}
 use Rattle.plan.specs.Meaning.{Lawful}
 use Rattle.addressing.specs.Devices.{Device, through, device_place, device_at}
-use Rattle.addressing.specs.Addressing.{no_directory, absent, in_force, addressed, traced}
+use Rattle.addressing.specs.Addressing.{no_directory, in_force, addressed, traced}
 use Rattle.addressing.specs.OwnAddresses.{OwnAddresses}
 use Rattle.addressing.proofs.OwnAddresses.{in_force_some, in_force_none, own_address, node_of, node_only}
-use Rattle.runs.specs.Calls.{State, Meaning, Answer, granted, returned, rows, node, at_address, device, refused, busy, told, hold_answer, is_returned, directory_answer, is_awake, status_answer}
-use Rattle.runs.specs.Histories.{History, out, NoneAccepted, LastLine, InForce}
-use Rattle.runs.specs.Right.{RightHold, RightGiveBack, RightDirectory, HasPosition, IsNodeNumber, RightStatus, HasAddress, RightAddress, RightTrace}
+use Rattle.runs.specs.Calls.{State, Meaning, Answer, granted, returned, rows, node, at_address, device, busy, told, hold_answer, is_returned, directory_answer, is_awake, status_answer}
+use Rattle.runs.specs.Histories.{History, out, LastLine, InForce}
+use Rattle.runs.specs.Right.{RightHold, RightGiveBack, RightDirectory, HasPosition, IsNodeNumber, RightStatus, RightAddress, RightTrace}
 use Rattle.runs.proofs.Forces.{force_line, force_none, some_row}
 
 -- Holds.

@@ -1,46 +1,35 @@
 -- Each answer of a node is right for the events before it. Assumes nothing.
-use Rattle.std.proofs.Common.{◌≡◌, ℕ, ◌*◌, ◌<◌, ◌≤◌, min, Bool, true, false, cond, not, ◌&&◌, ◌||◌, eqb, ltb, leb, ◌⊎◌, List, [], ◌∷◌, map, length, Some, None, Ok, Err, Option, Result, sym, refl, ap, ◌∙◌, subst, inl, inr, arith}
-use Rattle.std.specs.Option.{ok_or}
-use Rattle.std.proofs.lemmas.Bool.{cases_Bool, cond-true, cond-false, and_parts, and_cases, and_from, and_left, or_cases, or_left, or_right, or_from, both_ways, eqb-true, eqb-false, eq-eqb, ne_eqb, ltb-true, ltb-false, lt-ltb, le-ltb, le-leb, lt-leb, not-true, not-false, not_from_true, not_from_false, false≢true}
+use Rattle.std.proofs.Common.{◌≡◌, ℕ, ◌<◌, min, Bool, true, false, cond, not, ◌&&◌, ◌||◌, eqb, List, [], ◌∷◌, map, length, Some, None, Ok, Err, Option, Result, sym, refl, ap, ◌∙◌, subst, inl, inr, arith}
+use Rattle.std.proofs.lemmas.Bool.{cases_Bool, cond-true, cond-false, and_parts, and_from, or_cases, or_left, or_right, eqb-true, eqb-false, eq-eqb, ne_eqb, not-true, not_from_false}
 use Rattle.keyed.specs.Orders.{numbers}
 use Rattle.keyed.specs.Find.{found}
 use Rattle.keyed.specs.Store.{stored, store_keeps}
 use Rattle.keyed.specs.Store as store
 use Rattle.keyed.specs.Remove.{removed}
-use Rattle.keyed.specs.Table.{written}
 use Rattle.counter.specs.Crc.{crc}
 use Rattle.report.specs.Reports.{Report}
-use Rattle.report.specs.Refusals.{Refusal, short}
+use Rattle.report.specs.Refusals.{Refusal}
 use Rattle.report.specs.Reading.{read}
 use Rattle.report.specs.Crossed.{Crossed, crossed, is_crossed}
 use Rattle.train.specs.Line.{Line}
-use Rattle.train.specs.Truth.{Awake, awake, report, reports, first_mac, In, here, there}
-use Rattle.train.specs.Rules.{Different, macs, IsLine, Within}
-use Rattle.train.specs.Rows.{Row, counted, placed_nodes, rows as line_rows}
-use Rattle.train.specs.Bytes.{rows_bytes, counter as line_counter}
+use Rattle.train.specs.Truth.{Awake, awake, reports, In, here, there}
+use Rattle.train.specs.Rules.{Different, macs, Within}
+use Rattle.train.specs.Rows.{Row, rows as line_rows}
+use Rattle.train.specs.Bytes.{rows_bytes}
 use Rattle.train.proofs.Agreed.{agreement, fits_agree}
-use Rattle.directory.specs.Asked.{carried, place_of}
-use Rattle.directory.specs.Writing.{write_answer, write_leaves}
 use Rattle.fitting.specs.Neighbours.{is_held, IsLoose, loose as first_loose, Firm}
 use Rattle.fitting.specs.Walk.{IsChain}
 use Rattle.fitting.specs.Answer.{mute, loosely, split, mixed, long, firm_answer, answer}
 use Rattle.fitting.specs.Theorems.{Answers, Fitting, AwakeIn}
 use Rattle.fitting.proofs.Found.{in_cases, in_none}
-use Rattle.fitting.proofs.Steps.{some_same, none_some}
+use Rattle.fitting.proofs.Steps.{none_some}
 use Rattle.fitting.proofs.Loose.{held_tells, held_so, none_loose, not_firm_tells}
 use Rattle.fitting.proofs.Chain.{no_loose}
-use Rattle.plan.specs.Meaning.{Lawful}
-use Rattle.addressing.specs.Devices.{Device}
-use Rattle.addressing.specs.Addressing.{no_directory, absent, in_force, addressed, traced}
-use Rattle.addressing.specs.OwnAddresses.{HasPlace, OwnAddresses}
-use Rattle.addressing.proofs.OwnAddresses.{own_address, node_of, node_only}
-use Rattle.runs.specs.Calls.{State, Meaning, Call, take, silence, inaugurate, hold, give_back, directory, status, address, trace, Answer, held, counter, granted, returned, rows, node, at_address, device, refused, full, unknown, barred, busy, told, onward, own_mac, let_through, stored_count, take_answer, held_with, silence_answer, bars, looked_at, named, decided, inaugurated, hold_answer, is_returned, directory_answer, is_awake, status_answer, reply, after, writes, Event, event, Step}
-use Rattle.runs.specs.Histories.{History, ReportsHeld, out, NoneAccepted, LastLine, InForce, Bars}
-use Rattle.runs.specs.Right.{Has, RightTake, RightSilence, RightInaugurate, RightHold, RightGiveBack, RightDirectory, HasPosition, IsNodeNumber, RightStatus, HasAddress, RightAddress, RightTrace, RightAnswer, Right}
+use Rattle.runs.specs.Calls.{State, Answer, held, counter, refused, full, unknown, barred, told, onward, own_mac, let_through, stored_count, held_with, bars, named, decided}
+use Rattle.runs.specs.Histories.{History}
+use Rattle.runs.specs.Right.{Has, RightTake, RightSilence, RightInaugurate}
 use Rattle.runs.proofs.Tables.{Rises, in_found, found_in, found_mac, full_only, full_then, rises_differ}
-use Rattle.runs.proofs.Forces.{force_line, force_none, some_row}
-use Rattle.runs.proofs.Holds.{out_is, holds_step}
-use Rattle.runs.proofs.Steps.{Kept, held_step, force_step, looked, found_so, answers, line_now, bars_so, free_so}
+use Rattle.runs.proofs.Steps.{Kept, answers, bars_so, free_so}
 
 -- Crossed neighbours.
 pub crossed_so : (r : Report) → Crossed r → is_crossed r ≡ true

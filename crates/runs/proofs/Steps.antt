@@ -1,7 +1,6 @@
 -- What a node keeps through one call. Assumes nothing.
-use Rattle.std.proofs.Common.{◌≡◌, ℕ, ◌<◌, ◌≤◌, min, Bool, true, false, cond, not, ◌&&◌, eqb, ltb, ◌⊎◌, List, [], ◌∷◌, length, Some, None, Ok, Err, Option, Result, sym, refl, ap, ◌∙◌, subst, inl, inr, arith, take_all}
-use lib.ListN as list
-use Rattle.std.proofs.lemmas.Bool.{cases_Bool, and_parts, and_cases, and_from, both_ways, eqb-true, eq-eqb, ltb-true, ltb-false, lt-ltb, not-true, not-false, false≢true}
+use Rattle.std.proofs.Common.{◌≡◌, ℕ, ◌≤◌, min, Bool, true, false, cond, not, ◌&&◌, eqb, ltb, List, [], ◌∷◌, length, Some, None, Ok, Err, Option, Result, sym, refl, ap, ◌∙◌, subst, inl, inr, arith, take_all}
+use Rattle.std.proofs.lemmas.Bool.{and_parts, and_cases, and_from, both_ways, eqb-true, eq-eqb, ltb-true, ltb-false, not-true, not-false, false≢true}
 use Rattle.keyed.specs.Orders.{numbers}
 use Rattle.keyed.specs.Rising.{Rising}
 use Rattle.keyed.specs.Find.{found}
@@ -23,12 +22,12 @@ use Rattle.fitting.specs.Answer.{answer}
 use Rattle.fitting.specs.Theorems.{Answers, Fitting, AwakeIn}
 use Rattle.fitting.proofs.Assembling.{way_same}
 use Rattle.fitting.proofs.Answers.{answers as fitting_answers}
-use Rattle.runs.specs.Calls.{State, fresh, Meaning, Call, take, silence, inaugurate, hold, give_back, directory, status, address, trace, Answer, held, counter, refused, full, unknown, barred, told, onward, own_mac, let_through, stored_count, take_answer, held_with, silence_answer, same_row, same_rows, bars, looked_at, named, decided, inaugurated, rows_after, reply, after, Event, event}
-use Rattle.runs.specs.Histories.{History, Takes, Silences, ReportsHeld, out, Accepted, LineFits, InForce, Bars}
+use Rattle.runs.specs.Calls.{State, fresh, Meaning, Call, take, silence, inaugurate, hold, give_back, directory, status, address, trace, Answer, held, counter, full, unknown, barred, told, onward, own_mac, let_through, stored_count, held_with, same_row, same_rows, bars, looked_at, named, decided, rows_after, reply, after, Event, event}
+use Rattle.runs.specs.Histories.{History, ReportsHeld, LineFits, InForce, Bars}
 use Rattle.runs.proofs.Tables.{keeps_rises}
-use Rattle.runs.proofs.Holding.{call_kind, answer_kind, Quiet, quiet_call, quiet_refused, held_keep, held_take, held_silence, held_unknown, held_none, are_reports, ok_same, same_words, same_mac}
+use Rattle.runs.proofs.Holding.{call_kind, Quiet, quiet_call, quiet_refused, held_keep, held_take, held_silence, held_unknown, held_none, are_reports, ok_same, same_words, same_mac}
 use Rattle.runs.proofs.Forces.{not_inauguration, not_granted, force_more, force_now, one_force}
-use Rattle.runs.proofs.Holds.{Out, out_is, holds_step}
+use Rattle.runs.proofs.Holds.{Out, out_is}
 
 -- what a node keeps after each event: it knows of its history what it needs
 pub record Kept (mac places : ℕ) (h : History) (s : State) : Type 0 where

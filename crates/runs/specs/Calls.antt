@@ -13,7 +13,7 @@ use Rattle.report.specs.Reading.{read}
 use Rattle.report.specs.Crossed.{crossed, is_crossed}
 use Rattle.train.specs.Rows.{Row}
 use Rattle.train.specs.Bytes.{rows_bytes}
-use Rattle.directory.specs.Asked.{carried, place_of}
+use Rattle.directory.specs.Asked.{place_of}
 use Rattle.directory.specs.Writing.{write_answer, write_leaves}
 use Rattle.fitting.specs.Assemble.{same_way}
 use Rattle.fitting.specs.Neighbours.{IsLoose}

@@ -10,7 +10,7 @@ use Rattle.train.specs.Truth.{In}
 use Rattle.train.specs.Rules.{Within}
 use Rattle.train.specs.Rows.{Row, rows as line_rows}
 use Rattle.fitting.specs.Theorems.{Fitting, AwakeIn}
-use Rattle.runs.specs.Calls.{Call, take, silence, inaugurate, Answer, held, counter, granted, returned, rows, node, at_address, device, refused, own_mac, Event}
+use Rattle.runs.specs.Calls.{take, silence, inaugurate, Answer, held, counter, granted, returned, rows, node, at_address, device, refused, own_mac, Event}
 
 abbrev pub History : Type 0
 History = List Event

@@ -1,5 +1,5 @@
 -- Whole runs of a node, and what is promised of two of them. Assumes nothing.
-use Rattle.std.specs.Prelude.{◌≡◌, ℕ, ◌⊎◌, List, [], ◌∷◌, ◌++◌, map, length}
+use Rattle.std.specs.Prelude.{◌≡◌, ℕ, ◌⊎◌, List, [], ◌∷◌, length}
 use Rattle.keyed.specs.Table.{written}
 use Rattle.plan.specs.Meaning.{Lawful}
 use Rattle.train.specs.Line.{Line}

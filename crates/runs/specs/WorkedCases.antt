@@ -1,9 +1,9 @@
 -- Worked cases, as a list. Assumes nothing.
-use Rattle.std.specs.Prelude.{◌≡◌, ℕ, ◌+◌, true, false, List, [], ◌∷◌, ◌++◌, map, replicate, Some, None, Err, Option}
+use Rattle.std.specs.Prelude.{◌≡◌, ℕ, ◌+◌, false, List, [], ◌∷◌, ◌++◌, map, replicate, Some, None, Err, Option}
 use Rattle.std.specs.List.{AllByRecursion as All}
 use Rattle.report.specs.Reports.{Report}
 use Rattle.report.specs.Layout.{words}
-use Rattle.train.specs.Line.{forward, Node, Line}
+use Rattle.train.specs.Line.{forward, Line}
 use Rattle.train.specs.Truth.{true_reports}
 use Rattle.train.specs.Bytes.{row_word}
 use Rattle.plan.specs.TrainPlan.{train_serves, train_stands}

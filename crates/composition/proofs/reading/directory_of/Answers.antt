@@ -1,4 +1,4 @@
-use Rattle.std.proofs.Common.{◌≡◌, ◌-◌, List, take, Some, None, Ok, Err, Option, Result, sym, ap, ◌∙◌, arith, rules}
+use Rattle.std.proofs.Common.{◌≡◌, ◌-◌, List, take, Some, None, Ok, Err, Option, Result, sym, ap, ◌∙◌, arith}
 use Rattle.train.specs.Line.{Line}
 use Rattle.train.specs.Rows.{Row, rows, rows_met}
 use Rattle.train.proofs.Agreed.{one_directory}
@@ -7,8 +7,6 @@ use Rattle.train.proofs.Numbered.{numbered}
 use Rattle.directory.specs.Meaning.{serving, rows_from}
 use Rattle.composition.specs.declared.fault.LineFault.{LineFault}
 use Rattle.composition.specs.Meaning.{described}
-use Rattle.composition.specs.Faults.{line_fault}
-use Rattle.composition.specs.Gathering.{directory_answer}
 use Rattle.composition.proofs.Exact.{no_fault}
 use Rattle.composition.proofs.Gathering.{gathered}
 use Rattle.composition.proofs.reading.directory_of.Goals as goal

@@ -1,5 +1,5 @@
-use Rattle.std.proofs.Common.{◌≡◌, ◌-◌, ◌≤◌, cond, length, get_or, sym, refl, ap, ◌∙◌, arith}
-use Rattle.train.specs.Line.{turn, flip}
+use Rattle.std.proofs.Common.{◌-◌, cond, length, get_or, sym, ap, ◌∙◌, arith}
+use Rattle.train.specs.Line.{flip}
 use Rattle.composition.specs.Meaning.{consist_means, described}
 use Rattle.composition.specs.Gathering.{nowhere}
 use Rattle.composition.proofs.Gathering.{place_at, flip_at, read_one, read_more}

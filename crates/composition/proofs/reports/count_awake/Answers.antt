@@ -1,8 +1,8 @@
-use Rattle.std.proofs.Common.{◌≡◌, ◌+◌, map, length, get_or, drop, None, sym, ap, ◌∙◌, arith}
+use Rattle.std.proofs.Common.{◌+◌, map, length, get_or, drop, None, ap, ◌∙◌, arith}
 use Rattle.std.specs.Option.{option_map}
 use Rattle.std.proofs.lemmas.List.{at_drop_all}
 use Rattle.composition.specs.Meaning.{node_means}
-use Rattle.composition.specs.Faults.{mac_then, macs_in}
+use Rattle.composition.specs.Faults.{macs_in}
 use Rattle.composition.proofs.Steps.{no_node, asleep, awake_counts, macs_here}
 use Rattle.composition.proofs.reports.count_awake.Goals as goal
 use Rattle.composition.proofs.reports.count_awake.Goals.{then-is_some, else-is_some}

@@ -1,13 +1,13 @@
-use Rattle.std.proofs.Common.{◌≡◌, ℕ, ◌+◌, ◌<◌, ◌≤◌, List, [], ◌∷◌, ◌++◌, map, length, get_or, take, drop, set, Some, None, Option, sym, refl, ap, ◌∙◌, arith}
+use Rattle.std.proofs.Common.{◌≡◌, ℕ, ◌+◌, ◌<◌, ◌≤◌, List, ◌∷◌, ◌++◌, map, length, get_or, take, drop, Some, None, Option, sym, refl, ap, ◌∙◌, arith}
 use Rattle.std.specs.Option.{option_map}
 use Rattle.std.proofs.lemmas.List.{at_drop_all, append-nil, length-map}
 use Rattle.report.specs.declared.Mac.{Mac}
-use Rattle.train.specs.Truth.{Awake, awake_of, report}
+use Rattle.train.specs.Truth.{report}
 use Rattle.composition.specs.declared.consist.Node as node
 use Rattle.composition.specs.declared.consist.Consist as consist
 use Rattle.composition.specs.declared.consist.Placed as placed
 use Rattle.composition.specs.Meaning.{node_means, nodes_of, consist_means, placed_means}
-use Rattle.composition.specs.Standing.{standing, nobody, awake_node, woken, awake_in, next_mac, last_mac, reports_between}
+use Rattle.composition.specs.Standing.{standing, nobody, awake_node, woken, awake_in, last_mac, reports_between}
 use Rattle.composition.specs.Sending.{coded}
 use Rattle.composition.proofs.Sending.{write_on, back_on}
 use Rattle.composition.proofs.Standing.{standing_awake, length_standing, step_on, next_is}

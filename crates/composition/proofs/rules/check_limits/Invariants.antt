@@ -1,4 +1,4 @@
-use Rattle.std.proofs.Common.{◌≡◌, ℕ, ◌+◌, min, drop}
+use Rattle.std.proofs.Common.{◌≡◌, ◌+◌, min, drop}
 use Rattle.train.specs.Rules.{node_count, network_count, bit_count}
 use Rattle.composition.specs.Meaning.{described}
 use Rattle.composition.proofs.rules.check_limits.Given as goal

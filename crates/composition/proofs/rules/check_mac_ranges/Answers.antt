@@ -1,4 +1,4 @@
-use Rattle.std.proofs.Common.{◌≡◌, ◌+◌, map, sym, ap, ◌∙◌}
+use Rattle.std.proofs.Common.{◌+◌, map, sym, ap, ◌∙◌}
 use Rattle.std.proofs.lemmas.List.{at_drop_all}
 use Rattle.composition.specs.Meaning.{node_means}
 use Rattle.composition.specs.Faults.{told, mac_fault}

@@ -1,4 +1,4 @@
-use Rattle.std.proofs.Common.{◌≡◌, sym, ap, ◌∙◌, arith}
+use Rattle.std.proofs.Common.{ap, ◌∙◌, arith}
 use Rattle.report.specs.Masks.{unbroken}
 use Rattle.report.proofs.Masks.{unbroken_carries}
 use Rattle.composition.proofs.rules.is_gapless.Goals as goal

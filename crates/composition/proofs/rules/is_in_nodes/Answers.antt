@@ -1,10 +1,10 @@
-use Rattle.std.proofs.Common.{◌≡◌, ◌+◌, true, false, ◌||◌, eqb, map, get_or, drop, Some, None, sym, ap, ◌∙◌}
+use Rattle.std.proofs.Common.{◌+◌, ◌||◌, map, drop, Some, None, sym, ap, ◌∙◌}
 use Rattle.std.specs.Option.{option_map}
 use Rattle.std.proofs.lemmas.List.{at_drop_all}
 use Rattle.std.proofs.lemmas.Bool.{eq-eqb, ne_eqb, eqb-true, eqb-false}
 use Rattle.composition.specs.Meaning.{node_means}
 use Rattle.composition.specs.Faults.{among, macs_in}
-use Rattle.composition.proofs.Steps.{no_node, macs_here}
+use Rattle.composition.proofs.Steps.{macs_here}
 use Rattle.composition.proofs.rules.is_in_nodes.Goals as goal
 use Rattle.composition.proofs.rules.is_in_nodes.Goals.{in-Some+else-eq, in_default}
 

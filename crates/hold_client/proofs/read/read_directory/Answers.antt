@@ -2,7 +2,6 @@ use Rattle.std.proofs.Common.{length, Err, refl, ap, ◌∙◌}
 use Rattle.std.proofs.lemmas.Result.{err_from_is_err_and}
 use Rattle.directory.specs.Writing.{write_leaves}
 use Rattle.runs.specs.Calls.{told, rows, directory_answer}
-use Rattle.node.specs.Seen.{seen}
 use Rattle.hold_client.specs.Held.{no_hold, read_told}
 use Rattle.hold_client.proofs.Returned.{no_plan, no_hold_left, as_before, read_free, read_busy}
 use Rattle.hold_client.proofs.read.read_directory.Goals as goal

@@ -1,4 +1,4 @@
-use Rattle.std.proofs.Common.{◌≡◌, length, sym, ◌∙◌, arith, rules}
+use Rattle.std.proofs.Common.{◌≡◌, length, arith, rules}
 use Rattle.report.proofs.Written.{ranges, length_words}
 use Rattle.report.proofs.Report.count.Goals as goal
 

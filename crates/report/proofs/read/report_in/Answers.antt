@@ -1,8 +1,7 @@
-use Rattle.std.proofs.Common.{◌≡◌, ◌≤◌, true, ◌&&◌, leb, take, Ok, sym, ap, ◌∙◌, arith}
+use Rattle.std.proofs.Common.{◌≡◌, true, ◌&&◌, leb, take, ap, ◌∙◌, arith}
 use Rattle.std.proofs.lemmas.Bool.{and_from, le-leb}
-use Rattle.report.specs.declared.Report as code
-use Rattle.report.specs.Reports.{Report, means, filled, is_report}
-use Rattle.report.specs.Reading.{nodes_in, masks_in, padded, report_in, answer}
+use Rattle.report.specs.Reports.{means, filled, is_report}
+use Rattle.report.specs.Reading.{masks_in, report_in}
 use Rattle.report.proofs.Masks.{few_masks, take_padded, filled_padded}
 use Rattle.report.proofs.Lossless.{read_is_written, masks_counted}
 use Rattle.report.proofs.read.report_in.Goals as goal

@@ -1,5 +1,5 @@
-use Rattle.std.proofs.Common.{◌≡◌, ℕ, ◌^◌, ◌<◌, ◌≤◌, true, false, eqb, get_or, sym, ap, ◌∙◌, subst, arith}
-use Rattle.std.specs.Str.Parse.{IsNumeral, digits_value, without_leading_plus}
+use Rattle.std.proofs.Common.{◌≡◌, true, eqb, get_or, sym, ap, ◌∙◌, subst, arith}
+use Rattle.std.specs.Str.Parse.{IsNumeral, digits_value}
 use Rattle.scenario.proofs.Numerals.{plus_is_no_digit, no_plus}
 use Rattle.scenario.proofs.number.hex.Goals as goal
 

@@ -1,4 +1,4 @@
-use Rattle.std.proofs.Common.{◌≡◌, [], ◌∷◌, get_or, sym, ap, ◌∙◌}
+use Rattle.std.proofs.Common.{[], ◌∷◌, ap, ◌∙◌}
 use Rattle.report.specs.Reading.{padded}
 use Rattle.composition.specs.Meaning.{masks_of}
 use Rattle.composition.proofs.consist.Consist.masks.Goals as goal

@@ -1,4 +1,4 @@
-use Rattle.std.proofs.Common.{◌≡◌, ◌+◌, ◌-◌, ◌<◌, map, reverse, length, get_or, sym, ap, ◌∙◌, arith}
+use Rattle.std.proofs.Common.{◌+◌, ◌<◌, map, reverse, length, get_or, sym, ap, ◌∙◌, arith}
 use Rattle.report.specs.Reports.{whole}
 use Rattle.train.specs.Line.{Coupled}
 use Rattle.train.specs.Rows.{counted}

@@ -1,7 +1,6 @@
 use Rattle.std.proofs.Common.{◌≡◌, ◌≤◌, map, length, sym, ap, ◌∙◌, arith}
 use Rattle.std.proofs.lemmas.List.{length-map}
 use Rattle.report.specs.Masks.{together}
-use Rattle.report.specs.Reading.{padded}
 use Rattle.report.proofs.Masks.{together_four, together_padded}
 use Rattle.composition.specs.Meaning.{node_means, masks_of, nodes_of}
 use Rattle.composition.proofs.Steps.{few_nodes}

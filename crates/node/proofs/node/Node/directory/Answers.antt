@@ -1,4 +1,4 @@
-use Rattle.std.proofs.Common.{length, Ok, Err, sym, refl, ap, ◌∙◌}
+use Rattle.std.proofs.Common.{length, Err, refl, ap, ◌∙◌}
 use Rattle.std.proofs.lemmas.Result.{err_from_is_err_and}
 use Rattle.node.specs.Seen.{seen}
 use Rattle.node.specs.Told.{directory_told}

@@ -1,4 +1,4 @@
-use Rattle.std.proofs.Common.{sym, refl, ap, ◌∙◌}
+use Rattle.std.proofs.Common.{refl}
 use Rattle.node.proofs.Steps.{quiet, is_not}
 use Rattle.node.proofs.Statuses.{says_none, says_absent, says_node}
 use Rattle.node.proofs.node.Node.status.Goals as goal
