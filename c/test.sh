@@ -2,11 +2,11 @@
 # Builds the library and the example, runs it, also under valgrind, and compares what it prints with example.out.
 set -eu
 cd "$(dirname "$0")/.."
-kit=$(dirname "$(dirname "$(rt doc)")")
 out=target/c
-rt staticlib hello
+(cd crates/hello_c && rt lib)
 mkdir -p "$out"
-gcc -std=c11 -O2 -g -Wall -Wextra -Werror -o "$out/example" c/example.c target/staticlib/libhello.a "$kit/lib/librattle_c.a"
+cp crates/hello_c/out/libhello_c.a "$out/libhello.a"
+gcc -std=c11 -O2 -g -Wall -Wextra -Werror -o "$out/example" c/example.c "$out/libhello.a"
 "$out/example" "$out/frame.bin" > "$out/example.out"
 diff c/example.out "$out/example.out"
 if command -v valgrind > /dev/null; then

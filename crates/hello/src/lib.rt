@@ -1,4 +1,6 @@
-//! HELLO frames of an Ethernet train backbone for C: 0 or a refusal's number is returned, everything else goes out through what C lends.
+//! HELLO frames of an Ethernet train backbone as C is given them: 0 or a refusal's number is returned, everything else goes out through what C lends.
+//!
+//! `hello_c` exports both functions.
 
 #![tactic(auto)]
 
@@ -33,8 +35,7 @@ fn refuse(refusal: Refusal, place: &mut usize) -> u32
 }
 
 /// Reads a frame without its CRC. A refusal leaves `hello` as it was, and only a refusal that names a place writes `place`.
-#[unsafe(no_mangle)]
-pub extern "C" fn hello_read(frame: &[u8], hello: &mut ReadHello, place: &mut usize) -> u32
+pub fn hello_read(frame: &[u8], hello: &mut ReadHello, place: &mut usize) -> u32
     ensures number { result ≡ number (read frame.now) }
     ensures hello { hello.new ≡ hello_left (read frame.now) hello.old }
     ensures place { place.new ≡ place_left (read frame.now) place.old }
@@ -59,8 +60,7 @@ pub extern "C" fn hello_read(frame: &[u8], hello: &mut ReadHello, place: &mut us
 }
 
 /// Writes a frame of 125 bytes, with a time to live in seconds, from a place of the buffer on. A refusal leaves the buffer as it was, and only a refusal that names an offset writes `place`.
-#[unsafe(no_mangle)]
-pub extern "C" fn hello_write<'a>(
+pub fn hello_write<'a>(
     fields: &Fields,
     vendor: &'a [u8],
     uuid: &'a [u8],
