@@ -5,8 +5,7 @@ set -eu
 root=$(cd "$(dirname "$0")/../.." && pwd)
 copy=$(mktemp -d)
 trap 'rm -rf "$copy"' EXIT
-cp -R "$root/crates" "$root/crates.txt" "$copy"
-if [ -d "$root/target" ]; then cp -R "$root/target" "$copy"; fi
+tar -C "$root" --exclude=out -cf - crates crates.txt | tar -C "$copy" -xf -
 cd "$copy"
 
 refused() { # NAME TEXT ERROR
@@ -15,13 +14,13 @@ refused() { # NAME TEXT ERROR
         { at = index($0, ENVIRON["OLD"]) }
         at { $0 = substr($0, 1, at - 1) ENVIRON["NEW"] substr($0, at + length(ENVIRON["OLD"])) }
         { print }' "$root/crates/hold_client/src/read.rt" >crates/hold_client/src/read.rt
-    if rt check hold_client >out 2>&1; then
+    if (cd crates/hold_client && rt check) >said 2>&1; then
         echo "$1: NOT refused"
         exit 1
     fi
-    if ! grep -q "$3" out; then
+    if ! grep -q "$3" said; then
         echo "$1: refused, but not as $3:"
-        tail -n 20 out
+        tail -n 20 said
         exit 1
     fi
     echo "$1: refused as $3"

@@ -2,7 +2,7 @@
 use Rattle.std.proofs.Common.{◌≡◌, ℕ, suc, ◌+◌, ◌^◌, ◌≤◌, Bool, true, false, not, ◌&&◌, eqb, leb, ◌⊎◌, List, [], ◌∷◌, ◌++◌, map, reverse, length, is_ok, Some, None, Option, Result, sym, refl, ap, ◌∙◌, subst, ap₂, inl, inr, ⊎_elim, arith}
 use mathlib.Core.List.{map-append}
 use Rattle.std.specs.Option.{option_map}
-use Rattle.std.specs.List.{flat_map, AllByRecursion as All}
+use Rattle.std.specs.List.{flat_map, AllByRecursion}
 use Rattle.std.proofs.lemmas.List.{length-reverse, length-map, reverse-reverse, append-nil, append_assoc}
 use Rattle.std.proofs.lemmas.Bool.{and_parts, and_from, leb-true, le-leb, ltb-true, lt-ltb, eqb-false, ne_eqb, or_parts, or_from, not-true}
 use Rattle.report.specs.Masks.{is_mask, gapless}
@@ -44,14 +44,14 @@ unmapped g None e = refl
 unmapped g (Some f) e = let z : ◌≡◌ {A = ℕ} 0 1 = cc in absurd (let n : ⊥ = omega arith in n)
 
 -- the nodes of a consist
-masks_of_none : (p : ℕ) (ns : List Node) → mask_fault p ns ≡ None → All (λ m. (1 ≤ m) × (m ≤ 255)) (map (λ n. n.mask) ns)
+masks_of_none : (p : ℕ) (ns : List Node) → mask_fault p ns ≡ None → AllByRecursion (λ m. (1 ≤ m) × (m ≤ 255)) (map (λ n. n.mask) ns)
 masks_of_none p [] e = tt
 masks_of_none p (n ∷ ns) e =
     let b = passes (is_mask n.mask) (NoNetwork p) (none_left (unless (is_mask n.mask) (NoNetwork p)) (mask_fault (p + 1) ns) e) in
     let parts = and_parts (leb 1 n.mask) (leb n.mask 255) b in
     ((leb-true 1 n.mask parts.0, leb-true n.mask 255 parts.1), masks_of_none (p + 1) ns (none_right (unless (is_mask n.mask) (NoNetwork p)) (mask_fault (p + 1) ns) e))
 
-none_of_masks : (p : ℕ) (ns : List Node) → All (λ m. (1 ≤ m) × (m ≤ 255)) (map (λ n. n.mask) ns) → mask_fault p ns ≡ None
+none_of_masks : (p : ℕ) (ns : List Node) → AllByRecursion (λ m. (1 ≤ m) × (m ≤ 255)) (map (λ n. n.mask) ns) → mask_fault p ns ≡ None
 none_of_masks p [] h = refl
 none_of_masks p (n ∷ ns) h =
     none_both (unless (is_mask n.mask) (NoNetwork p)) (mask_fault (p + 1) ns)
@@ -64,21 +64,21 @@ real_mac m e = let parts = and_parts (leb 1 m) (leb (suc m) (2 ^ 48)) e in (leb-
 mac_real : (m : ℕ) → IsMac m → is_mac m ≡ true
 mac_real m h = and_from (leb 1 m) (leb (suc m) (2 ^ 48)) (le-leb 1 m h.0) (lt-ltb m (2 ^ 48) h.1)
 
-then_all : (o : Option ℕ) (ms : List ℕ) → mac_fits o ≡ true → All IsMac ms → All IsMac (mac_then o ms)
+then_all : (o : Option ℕ) (ms : List ℕ) → mac_fits o ≡ true → AllByRecursion IsMac ms → AllByRecursion IsMac (mac_then o ms)
 then_all None ms e h = h
 then_all (Some m) ms e h = (real_mac m e, h)
 
-all_then : (o : Option ℕ) (ms : List ℕ) → All IsMac (mac_then o ms) → (mac_fits o ≡ true) × All IsMac ms
+all_then : (o : Option ℕ) (ms : List ℕ) → AllByRecursion IsMac (mac_then o ms) → (mac_fits o ≡ true) × AllByRecursion IsMac ms
 all_then None ms h = (refl, h)
 all_then (Some m) ms h = (mac_real m h.0, h.1)
 
-macs_of_none : (p : ℕ) (ns : List Node) → mac_fault p ns ≡ None → All IsMac (macs_in ns)
+macs_of_none : (p : ℕ) (ns : List Node) → mac_fault p ns ≡ None → AllByRecursion IsMac (macs_in ns)
 macs_of_none p [] e = tt
 macs_of_none p (n ∷ ns) e =
     then_all n.mac (macs_in ns) (passes (mac_fits n.mac) (WrongMac p) (none_left (unless (mac_fits n.mac) (WrongMac p)) (mac_fault (p + 1) ns) e))
     (macs_of_none (p + 1) ns (none_right (unless (mac_fits n.mac) (WrongMac p)) (mac_fault (p + 1) ns) e))
 
-none_of_macs : (p : ℕ) (ns : List Node) → All IsMac (macs_in ns) → mac_fault p ns ≡ None
+none_of_macs : (p : ℕ) (ns : List Node) → AllByRecursion IsMac (macs_in ns) → mac_fault p ns ≡ None
 none_of_macs p [] h = refl
 none_of_macs p (n ∷ ns) h =
     let parts = all_then n.mac (macs_in ns) h in
@@ -88,7 +88,7 @@ none_of_macs p (n ∷ ns) h =
 pub record Keeps (c : Consist) : Type 0 where
   pub is : IsConsist c
   pub awake : 1 ≤ length (macs_in c.nodes)
-  pub macs : All IsMac (macs_in c.nodes)
+  pub macs : AllByRecursion IsMac (macs_in c.nodes)
 
 real_uuid : (u : ℕ) → is_uuid u ≡ true → IsUuid u
 real_uuid u e = let parts = and_parts (leb 1 u) (leb (suc u) (2 ^ 128)) e in (leb-true 1 u parts.0, ltb-true u (2 ^ 128) parts.1)
@@ -146,35 +146,35 @@ module _ (c : Consist) where
       (passed (leb 1 (length (macs_in c.nodes))) NoneAwake (le-leb 1 (length (macs_in c.nodes)) h.awake))
       (none_of_macs 1 c.nodes h.macs)))))
 
-all_keep : (k : ℕ) (l : Line) → consists_fault k l ≡ None → All (λ s. Keeps s.consist) l
+all_keep : (k : ℕ) (l : Line) → consists_fault k l ≡ None → AllByRecursion (λ s. Keeps s.consist) l
 all_keep k [] e = tt
 all_keep k (s ∷ l) e =
     let here = option_map (λ f. record { place = k; rule = f }) (consist_fault s.consist) in
     (keeps s.consist (unmapped (λ f. record { place = k; rule = f }) (consist_fault s.consist) (none_left here (consists_fault (k + 1) l) e)), all_keep (k + 1) l (none_right here (consists_fault (k + 1) l) e))
 
-all_kept : (k : ℕ) (l : Line) → All (λ s. Keeps s.consist) l → consists_fault k l ≡ None
+all_kept : (k : ℕ) (l : Line) → AllByRecursion (λ s. Keeps s.consist) l → consists_fault k l ≡ None
 all_kept k [] h = refl
 all_kept k (s ∷ l) h =
     let placed : ConsistRule → ConsistFault = λ f. record { place = k; rule = f } in
     none_both (option_map placed (consist_fault s.consist)) (consists_fault (k + 1) l) (ap (option_map placed) (kept s.consist h.0)) (all_kept (k + 1) l h.1)
 
 -- lists whose numbers all differ
-all_split : {A : Type 0} (P : A → Type 0) (xs ys : List A) → All P (xs ++ ys) → All P xs × All P ys
+all_split : {A : Type 0} (P : A → Type 0) (xs ys : List A) → AllByRecursion P (xs ++ ys) → AllByRecursion P xs × AllByRecursion P ys
 all_split P [] ys h = (tt, h)
 all_split P (x ∷ xs) ys h = let rest = all_split P xs ys h.1 in ((h.0, rest.0), rest.1)
 
-pub all_join : {A : Type 0} (P : A → Type 0) (xs ys : List A) → All P xs → All P ys → All P (xs ++ ys)
+pub all_join : {A : Type 0} (P : A → Type 0) (xs ys : List A) → AllByRecursion P xs → AllByRecursion P ys → AllByRecursion P (xs ++ ys)
 all_join P [] ys h k = k
 all_join P (x ∷ xs) ys h k = (h.0, all_join P xs ys h.1 k)
 
-pub all_weaker : {A : Type 0} (P Q : A → Type 0) → ((x : A) → P x → Q x) → (xs : List A) → All P xs → All Q xs
+pub all_weaker : {A : Type 0} (P Q : A → Type 0) → ((x : A) → P x → Q x) → (xs : List A) → AllByRecursion P xs → AllByRecursion Q xs
 all_weaker P Q f [] h = tt
 all_weaker P Q f (x ∷ xs) h = (f x h.0, all_weaker P Q f xs h.1)
 
 abbrev Apart : ℕ → List ℕ → Type 0
-Apart x ys = All (λ y. x ≡ y → ⊥) ys
+Apart x ys = AllByRecursion (λ y. x ≡ y → ⊥) ys
 
-split : (xs ys : List ℕ) → Different (xs ++ ys) → Different xs × Different ys × All (λ x. Apart x ys) xs
+split : (xs ys : List ℕ) → Different (xs ++ ys) → Different xs × Different ys × AllByRecursion (λ x. Apart x ys) xs
 split [] ys h = (tt, h, tt)
 split (x ∷ xs) ys h =
     let parts = all_split (λ y. x ≡ y → ⊥) xs ys h.0 in
@@ -183,13 +183,13 @@ split (x ∷ xs) ys h =
 
 -- each block of numbers as it stands, or turned
 module _ (f g : Coupled → List ℕ) (as_or_turned : (s : Coupled) → (g s ≡ f s) ⊎ (g s ≡ reverse (f s))) where
-  all_block : (P : ℕ → Type 0) (s : Coupled) → All P (f s) → All P (g s)
-  all_block P s h = ⊎_elim (λ e. subst (All P) (sym e) h) (λ e. subst (All P) (sym e) (all_reverse P (f s) h)) (as_or_turned s)
+  all_block : (P : ℕ → Type 0) (s : Coupled) → AllByRecursion P (f s) → AllByRecursion P (g s)
+  all_block P s h = ⊎_elim (λ e. subst (AllByRecursion P) (sym e) h) (λ e. subst (AllByRecursion P) (sym e) (all_reverse P (f s) h)) (as_or_turned s)
 
   different_block : (s : Coupled) → Different (f s) → Different (g s)
   different_block s h = ⊎_elim (λ e. subst Different (sym e) h) (λ e. subst Different (sym e) (different_reverse (f s) h)) (as_or_turned s)
 
-  all_blocks : (P : ℕ → Type 0) (l : Line) → All P (flat_map f l) → All P (flat_map g l)
+  all_blocks : (P : ℕ → Type 0) (l : Line) → AllByRecursion P (flat_map f l) → AllByRecursion P (flat_map g l)
   all_blocks P [] h = tt
   all_blocks P (s ∷ l) h =
       let parts = all_split P (f s) (flat_map f l) h in
@@ -203,13 +203,13 @@ module _ (f g : Coupled → List ℕ) (as_or_turned : (s : Coupled) → (g s ≡
       (all_block (λ x. Apart x (flat_map g l)) s (all_weaker (λ x. Apart x (flat_map f l)) (λ x. Apart x (flat_map g l)) (λ x. all_blocks (λ y. x ≡ y → ⊥) l) (f s) parts.2))
 
 -- no number stands before it
-lacking : (x : ℕ) (ys : List ℕ) → among x ys ≡ false → All (λ y. Apart y (x ∷ [])) ys
+lacking : (x : ℕ) (ys : List ℕ) → among x ys ≡ false → AllByRecursion (λ y. Apart y (x ∷ [])) ys
 lacking x [] e = tt
 lacking x (y ∷ ys) e =
     let parts = or_parts (eqb x y) (among x ys) e in
     (((λ same. eqb-false x y parts.0 (sym same)), tt), lacking x ys parts.1)
 
-lacks : (x : ℕ) (ys rest : List ℕ) → All (λ y. Apart y (x ∷ rest)) ys → among x ys ≡ false
+lacks : (x : ℕ) (ys rest : List ℕ) → AllByRecursion (λ y. Apart y (x ∷ rest)) ys → among x ys ≡ false
 lacks x [] rest h = refl
 lacks x (y ∷ ys) rest h = or_from (eqb x y) (among x ys) (ne_eqb x y (λ e. h.0.0 (sym e))) (lacks x ys rest h.1)
 
@@ -311,7 +311,7 @@ module _ (l : Line) where
       none_both (unless (leb (node_count l) 63) Nodes) (or_else w b) (passed (leb (node_count l) 63) Nodes (le-leb (node_count l) 63 h.nodes))
       (none_both w b (passed (leb (network_count l) 63) Networks (le-leb (network_count l) 63 h.networked)) (passed (leb (bit_count l) 128) Bits (le-leb (bit_count l) 128 h.bits)))
 
-  all_macs : (k : Line) → All (λ s. Keeps s.consist) k → All IsMac (flat_map mac_row k)
+  all_macs : (k : Line) → AllByRecursion (λ s. Keeps s.consist) k → AllByRecursion IsMac (flat_map mac_row k)
   all_macs [] h = tt
   all_macs (s ∷ k) h = all_join IsMac (mac_row s) (flat_map mac_row k) h.0.macs (all_macs k h.1)
 
@@ -330,13 +330,13 @@ module _ (l : Line) where
           consists = all_weaker (λ s. Keeps s.consist) (λ s. IsConsist s.consist) (λ s h. h.is) l keep;
           some_awake = all_weaker (λ s. Keeps s.consist) (λ s. 1 ≤ length (awake_of s)) (λ s h. subst (λ n. 1 ≤ n) (as_many s) h.awake) l keep;
           own_uuids = subst Different (uuids_are l) own;
-          real_macs = subst (All IsMac) (macs_are l) (all_blocks mac_row awake_macs there IsMac l (all_macs l keep));
+          real_macs = subst (AllByRecursion IsMac) (macs_are l) (all_blocks mac_row awake_macs there IsMac l (all_macs l keep));
           own_macs = subst Different (macs_are l) (different_blocks mac_row awake_macs there l apart);
         },
         within (none_right (mac_twice_fault l) limits e3),
       )
 
-  all_keeps : (k : Line) → All (λ s. IsConsist s.consist) k → All (λ s. 1 ≤ length (awake_of s)) k → All IsMac (flat_map mac_row k) → All (λ s. Keeps s.consist) k
+  all_keeps : (k : Line) → AllByRecursion (λ s. IsConsist s.consist) k → AllByRecursion (λ s. 1 ≤ length (awake_of s)) k → AllByRecursion IsMac (flat_map mac_row k) → AllByRecursion (λ s. Keeps s.consist) k
   all_keeps [] h a m = tt
   all_keeps (s ∷ k) h a m =
       let parts = all_split IsMac (mac_row s) (flat_map mac_row k) m in
@@ -344,7 +344,7 @@ module _ (l : Line) where
 
   pub no_fault : IsLine l → Within l → line_fault l ≡ None
   no_fault h w =
-      let real = all_blocks awake_macs mac_row back IsMac l (subst (All IsMac) (sym (macs_are l)) h.real_macs) in
+      let real = all_blocks awake_macs mac_row back IsMac l (subst (AllByRecursion IsMac) (sym (macs_are l)) h.real_macs) in
       let apart = different_blocks awake_macs mac_row back l (subst Different (sym (macs_are l)) h.own_macs) in
       none_both (unless (leb 1 (length l)) NoConsist) from_consists_on (passed (leb 1 (length l)) NoConsist (le-leb 1 (length l) h.some_consist))
       (none_both (option_map InConsist (consists_fault 0 l)) from_uuids_on (ap (option_map InConsist) (all_kept 0 l (all_keeps l h.consists h.some_awake real)))

@@ -1,7 +1,7 @@
 -- The consists and the nodes that the reading of a line meets. Assumes nothing.
 use Rattle.std.proofs.Common.{◌≡◌, ℕ, ◌+◌, ◌-◌, ◌<◌, ◌≤◌, Bool, true, cond, not, eqb, ltb, List, [], ◌∷◌, ◌++◌, map, reverse, length, get_or, take, filter, sym, refl, ap, ◌∙◌, ap₂, arith}
 use mathlib.Core.List.{map-append}
-use Rattle.std.specs.List.{flat_map, AllByRecursion as All}
+use Rattle.std.specs.List.{flat_map, AllByRecursion}
 use Rattle.std.proofs.lemmas.List.{get_or-map, get_or-reverse, length-map, length-reverse, take_all}
 use Rattle.std.proofs.lemmas.Bool.{ne_eqb}
 use Rattle.report.specs.Reports.{whole}
@@ -89,11 +89,11 @@ meetings_unplaced n [] = refl
 meetings_unplaced n (x ∷ xs) = ap (λ ms. map (λ c. record { uuid = x.uuid; cn = c; node = n; way = x.way }) (networks x.mask) ++ ms) (meetings_unplaced (n + 1) xs)
 
 -- every node of a line serves a network
-kept_all : {A : Type 0} (p : A → Bool) (xs : List A) → All (λ x. p x ≡ true) xs → filter p xs ≡ xs
+kept_all : {A : Type 0} (p : A → Bool) (xs : List A) → AllByRecursion (λ x. p x ≡ true) xs → filter p xs ≡ xs
 kept_all p [] h = refl
 kept_all p (x ∷ xs) h = ap (λ b. cond b (x ∷ filter p xs) (filter p xs)) h.0 ∙ ap (λ r. x ∷ r) (kept_all p xs h.1)
 
-all_map : {A B : Type 0} (P : B → Type 0) (f : A → B) (xs : List A) → All (λ x. P (f x)) xs → All P (map f xs)
+all_map : {A B : Type 0} (P : B → Type 0) (f : A → B) (xs : List A) → AllByRecursion (λ x. P (f x)) xs → AllByRecursion P (map f xs)
 all_map P f [] h = tt
 all_map P f (x ∷ xs) h = (h.0, all_map P f xs h.1)
 
@@ -103,16 +103,16 @@ serves_some x = not (eqb x.mask 0)
 some_mask : (m : ℕ) → 1 ≤ m → not (eqb m 0) ≡ true
 some_mask m h = ap not (ne_eqb m 0 (λ e. let z : ⊥ = omega arith in z))
 
-all_counted : (s : Coupled) (n : ℕ) (ns : List Node) → All (λ m. (1 ≤ m) × (m ≤ 255)) (map (λ x. x.mask) ns) → All (λ x. serves_some (as_met s x) ≡ true) (counted n ns)
+all_counted : (s : Coupled) (n : ℕ) (ns : List Node) → AllByRecursion (λ m. (1 ≤ m) × (m ≤ 255)) (map (λ x. x.mask) ns) → AllByRecursion (λ x. serves_some (as_met s x) ≡ true) (counted n ns)
 all_counted s n [] h = tt
 all_counted s n (x ∷ ns) h = (some_mask x.mask h.0.0, all_counted s (n + 1) ns h.1)
 
-all_standing : (s : Coupled) (w : Way) (ns : List Node) → All (λ x. serves_some (as_met s x) ≡ true) (counted 1 ns)
-    → All (λ x. serves_some (as_met s x) ≡ true) (standing (record { consist = record { uuid = s.consist.uuid; nodes = ns }; way = w }))
+all_standing : (s : Coupled) (w : Way) (ns : List Node) → AllByRecursion (λ x. serves_some (as_met s x) ≡ true) (counted 1 ns)
+    → AllByRecursion (λ x. serves_some (as_met s x) ≡ true) (standing (record { consist = record { uuid = s.consist.uuid; nodes = ns }; way = w }))
 all_standing s forward ns h = h
 all_standing s turned ns h = all_reverse (λ x. serves_some (as_met s x) ≡ true) (counted 1 ns) h
 
-all_serve : (l : Line) → All (λ s. IsConsist s.consist) l → All (λ x. serves_some x ≡ true) (flat_map met_of l)
+all_serve : (l : Line) → AllByRecursion (λ s. IsConsist s.consist) l → AllByRecursion (λ x. serves_some x ≡ true) (flat_map met_of l)
 all_serve [] h = tt
 all_serve (s ∷ l) h =
     all_join (λ x. serves_some x ≡ true) (met_of s) (flat_map met_of l)

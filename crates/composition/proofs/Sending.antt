@@ -1,7 +1,7 @@
 -- The reports of a line, consist by consist. Assumes nothing.
 use Rattle.std.proofs.Common.{◌≡◌, ℕ, ◌+◌, ◌*◌, ◌/◌, ◌%◌, ◌^◌, ◌<◌, ◌≤◌, List, [], ◌∷◌, ◌++◌, map, length, take, drop, set, Some, None, Option, sym, refl, ap, ◌∙◌, subst, ap₂, arith}
 use mathlib.Core.List.{map-append}
-use Rattle.std.specs.List.{AllByRecursion as All}
+use Rattle.std.specs.List.{AllByRecursion}
 use Rattle.std.proofs.lemmas.List.{append_assoc, take_more_set, drop-set-lt, drop-drop, length-map}
 use Rattle.report.specs.declared.Report as code
 use Rattle.report.specs.Reports.{Report, means}
@@ -50,24 +50,24 @@ back r few =
     let ms = take_padded r.masks few in
     (λ i. record { mac = r.mac; side1 = r.side1; side2 = r.side2; uuid = u i; position = r.position; masks = ms i })
 
-all_back : (l : ℕ) (xs : List Awake) → All (λ a. length a.masks ≤ 4) xs → map means (map coded (reports l xs)) ≡ reports l xs
+all_back : (l : ℕ) (xs : List Awake) → AllByRecursion (λ a. length a.masks ≤ 4) xs → map means (map coded (reports l xs)) ≡ reports l xs
 all_back l [] h = refl
 all_back l (a ∷ xs) h = ap₂ ◌∷◌ (back (report l a (first_mac xs)) h.0) (all_back a.mac xs h.1)
 
-few_woken : (s : Coupled) → length (masks s.consist) ≤ 4 → (p : ℕ) (o : Option ℕ) (xs : List Awake) → All (λ a. length a.masks ≤ 4) xs → All (λ a. length a.masks ≤ 4) (woken s p o ++ xs)
+few_woken : (s : Coupled) → length (masks s.consist) ≤ 4 → (p : ℕ) (o : Option ℕ) (xs : List Awake) → AllByRecursion (λ a. length a.masks ≤ 4) xs → AllByRecursion (λ a. length a.masks ≤ 4) (woken s p o ++ xs)
 few_woken s few p (Some m) xs h = (few, h)
 few_woken s few p None xs h = h
 
-few_in : (s : Coupled) → length (masks s.consist) ≤ 4 → (ns : List (ℕ × Node)) → All (λ a. length a.masks ≤ 4) (awake_in s ns)
+few_in : (s : Coupled) → length (masks s.consist) ≤ 4 → (ns : List (ℕ × Node)) → AllByRecursion (λ a. length a.masks ≤ 4) (awake_in s ns)
 few_in s few [] = tt
 few_in s few (n ∷ ns) = few_woken s few n.0 n.1.mac (awake_in s ns) (few_in s few ns)
 
-few_all : (cs : List consist.Consist) → All (λ a. length a.masks ≤ 4) (awake (described cs))
+few_all : (cs : List consist.Consist) → AllByRecursion (λ a. length a.masks ≤ 4) (awake (described cs))
 few_all [] = tt
 few_all (c ∷ cs) =
     let s = consist_means c in
     let few : length (masks s.consist) ≤ 4 = omega (arith, few_nodes c, length-map (nodes_of c) node_means, length-map (map node_means (nodes_of c)) (λ n. n.mask)) in
-    all_join (λ a. length a.masks ≤ 4) (awake_of s) (awake (described cs)) (subst (All (λ a. length a.masks ≤ 4)) (standing_awake s) (few_in s few (standing s))) (few_all cs)
+    all_join (λ a. length a.masks ≤ 4) (awake_of s) (awake (described cs)) (subst (AllByRecursion (λ a. length a.masks ≤ 4)) (standing_awake s) (few_in s few (standing s))) (few_all cs)
 
 pub sent_means : (cs : List consist.Consist) → map means (sent (described cs)) ≡ true_reports (described cs)
 sent_means cs = all_back 0 (awake (described cs)) (few_all cs)

@@ -1,7 +1,7 @@
 -- Members of lists, and the first that passes a test. Assumes nothing.
 use Rattle.std.proofs.Common.{◌≡◌, ℕ, zero, suc, Bool, true, ◌⊎◌, List, [], ◌∷◌, ◌++◌, map, reverse, take, Some, None, filter, Option, sym, refl, ap, ◌∙◌, inl, inr, ⊎_elim, arith}
 use mathlib.Core.List.{reverse_aux}
-use Rattle.std.specs.List.{AllByRecursion as All}
+use Rattle.std.specs.List.{AllByRecursion}
 use Rattle.std.proofs.lemmas.Bool.{cases_Bool, cond-true, cond-false}
 use Rattle.train.specs.Truth.{In, here, there}
 use Rattle.directory.specs.Asked.{first_where, carried}
@@ -68,7 +68,7 @@ in_aux x (y ∷ xs) r i =
 pub in_reverse : {A : Type 0} (x : A) (xs : List A) → In x (reverse xs) → In x xs
 in_reverse x xs i = ⊎_elim (λ j. j) (λ j. elim j [ ]) (in_aux x xs [] i)
 
-pub all_in : {A : Type 0} (P : A → Type 0) (x : A) (xs : List A) → All P xs → In x xs → P x
+pub all_in : {A : Type 0} (P : A → Type 0) (x : A) (xs : List A) → AllByRecursion P xs → In x xs → P x
 all_in P x [] a i = elim i [ ]
 all_in P x (y ∷ xs) a here = a.0
 all_in P x (y ∷ xs) a (there i) = all_in P x xs a.1 i

@@ -1,7 +1,7 @@
 -- The place of each node of a line stands in its rows. Assumes nothing.
 use Rattle.std.proofs.Common.{◌≡◌, ℕ, suc, ◌+◌, ◌-◌, ◌≤◌, true, eqb, ltb, ◌⊎◌, List, [], ◌∷◌, ◌++◌, map, reverse, length, take, Some, None, filter, Option, sym, refl, ap, ◌∙◌, subst, ⊎_elim, arith}
 use mathlib.Core.List.{reverse_aux, reverse-cons}
-use Rattle.std.specs.List.{AllByRecursion as All}
+use Rattle.std.specs.List.{AllByRecursion}
 use Rattle.std.proofs.lemmas.List.{length-reverse, take_all}
 use Rattle.std.proofs.lemmas.Bool.{cond_both, eqb-true, eq-eqb}
 use Rattle.train.specs.Line.{Way, forward, turned, masks, Coupled, Line, turn, flip}
@@ -50,7 +50,7 @@ different_aux (x ∷ xs) r d e apart =
     different_aux xs (x ∷ r) d.1 (all_apart r (λ y i. apart x y here i), e)
     (λ a b i j. new a b i j)
   where
-    all_apart : (ys : List ℕ) → ((y : ℕ) → In y ys → x ≡ y → ⊥) → All (λ y. x ≡ y → ⊥) ys
+    all_apart : (ys : List ℕ) → ((y : ℕ) → In y ys → x ≡ y → ⊥) → AllByRecursion (λ y. x ≡ y → ⊥) ys
     all_apart [] h = tt
     all_apart (y ∷ ys) h = (h y here, all_apart ys (λ z i. h z (there i)))
 

@@ -1,6 +1,6 @@
 -- What each answer of an inauguration says of the lines that fit. Assumes nothing.
 use Rattle.std.proofs.Common.{◌≡◌, ℕ, ◌<◌, ◌≤◌, Bool, true, false, cond, not, leb, ◌⊎◌, List, [], ◌∷◌, length, take, Some, None, Ok, Err, Option, Result, sym, refl, ap, ◌∙◌, subst, ap₂, inl, inr, ⊎_elim, arith}
-use Rattle.std.specs.List.{AllByRecursion as All}
+use Rattle.std.specs.List.{AllByRecursion}
 use Rattle.std.proofs.lemmas.Bool.{ne_eqb, leb-true, ltb-true, le-leb, and_parts, and_from, both_ways}
 use Rattle.report.specs.Masks.{is_mask, all_masks}
 use Rattle.report.specs.Reports.{Report, is_mac, is_report}
@@ -38,7 +38,7 @@ use Rattle.fitting.proofs.Woken.{late_agrees, still_awake}
 mac_in_range : (m : ℕ) → is_mac m ≡ true → IsMac m
 mac_in_range m e = let p = and_parts _ _ e in (leb-true 1 m p.0, ltb-true m _ p.1)
 
-masks_in_range : (ms : List ℕ) → all_masks ms ≡ true → All (λ m. (1 ≤ m) × (m ≤ 255)) ms
+masks_in_range : (ms : List ℕ) → all_masks ms ≡ true → AllByRecursion (λ m. (1 ≤ m) × (m ≤ 255)) ms
 masks_in_range [] e = tt
 masks_in_range (m ∷ ms) e =
     let p = and_parts (is_mask m) (all_masks ms) e in
@@ -80,7 +80,7 @@ module _ (held : List Report) (g : AreReports held) where
       some [] j = absurd (not_in r j)
       some (a ∷ ys) j = omega arith
 
-      each : (l : ℕ) (ys : List Awake) → ((s : Report) → In s (reports l ys) → is_report s ≡ true) → All IsNode ys
+      each : (l : ℕ) (ys : List Awake) → ((s : Report) → In s (reports l ys) → is_report s ≡ true) → AllByRecursion IsNode ys
       each l [] h = tt
       each l (a ∷ ys) h = (report_node l a (first_mac ys) (h _ here), each a.mac ys (λ s j. h s (there j)))
 
@@ -126,7 +126,7 @@ within_so : (l : Line) → Within l → is_within l ≡ true
 within_so l w = and_from _ _ (and_from _ _ (le-leb _ _ w.nodes) (le-leb _ _ w.networked)) (le-leb _ _ w.bits)
 
 -- a line within the limits shows all its rows
-serving_all : (xs : List Met) → All Masked xs → serving xs ≡ xs
+serving_all : (xs : List Met) → AllByRecursion Masked xs → serving xs ≡ xs
 serving_all [] h = refl
 serving_all (x ∷ xs) h =
     ap (λ b. cond b (x ∷ serving xs) (serving xs)) (ap not (ne_eqb x.mask 0 (λ e. omega (arith, h.0)))) ∙ ap (λ r. x ∷ r) (serving_all xs h.1)

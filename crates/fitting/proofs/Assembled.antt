@@ -1,7 +1,7 @@
 -- Every line is assembled from its awake nodes, and any chain of reports tells whether they fit a line. Assumes nothing.
 use Rattle.std.proofs.Common.{◌≡◌, ℕ, ◌+◌, ◌<◌, ◌≤◌, true, false, cond, ◌⊎◌, List, [], ◌∷◌, ◌++◌, length, Some, None, Option, sym, refl, ap, ◌∙◌, subst, ap₂, inl, inr, ⊎_elim, append_assoc, arith}
 use mathlib.Core.List.{reverse_aux, map-append}
-use Rattle.std.specs.List.{AllByRecursion as All}
+use Rattle.std.specs.List.{AllByRecursion}
 use Rattle.std.proofs.lemmas.List.{length-map}
 use Rattle.std.proofs.ByRecursion.{All-append, All-weaker}
 use Rattle.std.proofs.lemmas.Bool.{eq-eqb, ne_eqb, lt-ltb, ltb-true, and_from, or_from}
@@ -41,15 +41,15 @@ rising q p (s ∷ ss) f fp h = go s.mac (λ r. rising r (p + 1) ss f fp)
     go (Some m) ih = (lt-ltb _ _ (omega (arith, fp m p)), ih (f m p).position (omega (arith, fp m p)))
     go None ih = ih q (omega arith)
 
-below : (p : ℕ) (ss : List Node) (f : ℕ → ℕ → Awake) → ((m r : ℕ) → (f m r).position ≡ r) → All (λ a. a.position < p + length ss) (awake_from p ss f)
+below : (p : ℕ) (ss : List Node) (f : ℕ → ℕ → Awake) → ((m r : ℕ) → (f m r).position ≡ r) → AllByRecursion (λ a. a.position < p + length ss) (awake_from p ss f)
 below p [] f fp = tt
 below p (s ∷ ss) f fp = go s.mac (All-weaker _ _ (λ a k. omega arith) _ (below (p + 1) ss f fp))
   where
-    go : (o : Option ℕ) → All (λ a. a.position < p + length (s ∷ ss)) (awake_from (p + 1) ss f) → All (λ a. a.position < p + length (s ∷ ss)) (awake_from p (record { mask = s.mask; mac = o } ∷ ss) f)
+    go : (o : Option ℕ) → AllByRecursion (λ a. a.position < p + length (s ∷ ss)) (awake_from (p + 1) ss f) → AllByRecursion (λ a. a.position < p + length (s ∷ ss)) (awake_from p (record { mask = s.mask; mac = o } ∷ ss) f)
     go (Some m) k = (omega (arith, fp m p), k)
     go None k = k
 
-falling : (n q : ℕ) (xs r : List Awake) → Ordered forward q xs → ((p : ℕ) → q < p → Ordered turned p r) → All (λ a. a.position < n) xs → q < n → Ordered turned n (reverse_aux xs r)
+falling : (n q : ℕ) (xs r : List Awake) → Ordered forward q xs → ((p : ℕ) → q < p → Ordered turned p r) → AllByRecursion (λ a. a.position < n) xs → q < n → Ordered turned n (reverse_aux xs r)
 falling n q [] r o h k j = h n j
 falling n q (a ∷ xs) r o h k j =
     falling n a.position xs (a ∷ r) o.1 (λ p i. (lt-ltb _ _ i, h a.position (ltb-true _ _ o.0))) k.1 k.0
@@ -81,7 +81,7 @@ pub put_step : (b c : Part) (a : Awake) (xs : List Awake) → put b a ≡ Some c
 put_step b c a xs e = ap (λ o. elim o [ Some d ↦ put_all d xs | None ↦ None ]) e
 
 taken : (c : Consist) (w : Way) (xs ys : List Awake) (b : Part) → c.uuid ≡ b.growing.consist.uuid → masks c ≡ masks b.growing.consist → w ≡ b.growing.way
-    → All (Of c w) xs → Ordered w b.last xs → Taken b xs ys
+    → AllByRecursion (Of c w) xs → Ordered w b.last xs → Taken b xs ys
 taken c w [] ys b u k v h o = record { after = b; same = refl; finished = refl; uuid = refl }
 taken c w (a ∷ xs) ys b u k v h o =
     let p = put_grown b a (h.0.0 ∙ u) (h.0.1 ∙ k) (h.0.2 ∙ v) (ap (λ x. behind x b.last a.position) (sym v) ∙ o.0) in
@@ -105,7 +105,7 @@ Puts b xs = (k : Line) × (put_all b xs ≡ Some k)
 -- one more consist, of which a is met first
 one_more : (s : Coupled) (l : Line) (b : Part) → Different (uuids b.finished ++ b.growing.consist.uuid ∷ uuids (s ∷ l))
     → ((b : Part) → Different (uuids b.finished ++ b.growing.consist.uuid ∷ uuids l) → Puts b (awake l))
-    → (n : ℕ) (xs : List Awake) → 1 ≤ length xs → All (Of s.consist s.way) xs → Ordered s.way n xs → Puts b (xs ++ awake l)
+    → (n : ℕ) (xs : List Awake) → 1 ≤ length xs → AllByRecursion (Of s.consist s.way) xs → Ordered s.way n xs → Puts b (xs ++ awake l)
 one_more s l b d ih n [] some h o = absurd (omega arith)
 one_more s l b d ih n (a ∷ xs) some h o =
     let c = s.consist in
@@ -122,15 +122,15 @@ one_more s l b d ih n (a ∷ xs) some h o =
     let r = ih t.after d' in
     (r.0, put_step b (next b a) a (xs ++ awake l) p ∙ t.same ∙ r.1)
 
-puts : (l : Line) (b : Part) → Different (uuids b.finished ++ b.growing.consist.uuid ∷ uuids l) → All (λ s. 1 ≤ length (awake_of s)) l → Puts b (awake l)
+puts : (l : Line) (b : Part) → Different (uuids b.finished ++ b.growing.consist.uuid ∷ uuids l) → AllByRecursion (λ s. 1 ≤ length (awake_of s)) l → Puts b (awake l)
 puts [] b d h = (all_of b, refl)
 puts (s ∷ l) b d h =
     let o = in_order s.consist s.way in
     one_more s l b d (λ c k. puts l c k h.1) o.0 (awake_of s) h.0 (of_awake s.consist s.way) o.1
 
 -- a line is assembled into some line
-first_consist : (s : Coupled) (l : Line) → Different (uuids (s ∷ l)) → All (λ s. 1 ≤ length (awake_of s)) l
-    → (n : ℕ) (xs : List Awake) → 1 ≤ length xs → All (Of s.consist s.way) xs → Ordered s.way n xs → (k : Line) × (assemble (xs ++ awake l) ≡ Some k)
+first_consist : (s : Coupled) (l : Line) → Different (uuids (s ∷ l)) → AllByRecursion (λ s. 1 ≤ length (awake_of s)) l
+    → (n : ℕ) (xs : List Awake) → 1 ≤ length xs → AllByRecursion (Of s.consist s.way) xs → Ordered s.way n xs → (k : Line) × (assemble (xs ++ awake l) ≡ Some k)
 first_consist s l d j n [] some h o = absurd (omega arith)
 first_consist s l d j n (a ∷ xs) some h o =
     let c = s.consist in
@@ -142,22 +142,22 @@ first_consist s l d j n (a ∷ xs) some h o =
 assembles : (l : Line) → IsLine l → (k : Line) × (assemble (awake l) ≡ Some k)
 assembles l h = go l h.some_consist h.own_uuids h.some_awake
   where
-    go : (l : Line) → 1 ≤ length l → Different (uuids l) → All (λ s. 1 ≤ length (awake_of s)) l → (k : Line) × (assemble (awake l) ≡ Some k)
+    go : (l : Line) → 1 ≤ length l → Different (uuids l) → AllByRecursion (λ s. 1 ≤ length (awake_of s)) l → (k : Line) × (assemble (awake l) ≡ Some k)
     go [] n d j = absurd (omega arith)
     go (s ∷ l) n d j =
         let o = in_order s.consist s.way in
         first_consist s l d j.1 o.0 (awake_of s) j.0 (of_awake s.consist s.way) o.1
 
 -- the awake nodes of a line are real
-all_both : {A : Type 0} (P Q : A → Type 0) (xs : List A) → All P xs → All Q xs → All (λ x. P x × Q x) xs
+all_both : {A : Type 0} (P Q : A → Type 0) (xs : List A) → AllByRecursion P xs → AllByRecursion Q xs → AllByRecursion (λ x. P x × Q x) xs
 all_both P Q [] h k = tt
 all_both P Q (x ∷ xs) h k = ((h.0, k.0), all_both P Q xs h.1 k.1)
 
-all_ways : (P : Awake → Type 0) (c : Consist) (w : Way) → All P (awake_up c w) → All P (awake_of (record { consist = c; way = w }))
+all_ways : (P : Awake → Type 0) (c : Consist) (w : Way) → AllByRecursion P (awake_up c w) → AllByRecursion P (awake_of (record { consist = c; way = w }))
 all_ways P c forward h = h
 all_ways P c turned h = all_reverse P (awake_up c turned) h
 
-nodes_of : (c : Consist) (w : Way) → IsConsist c → All IsNode (awake_of (record { consist = c; way = w }))
+nodes_of : (c : Consist) (w : Way) → IsConsist c → AllByRecursion IsNode (awake_of (record { consist = c; way = w }))
 nodes_of c w h =
     let low = all_ways (λ a. 1 ≤ a.position) c w (all_later c w 1 c.nodes) in
     let high = all_ways (λ a. a.position < 1 + length c.nodes) c w (below 1 c.nodes (awake_at c w) (λ m q. refl)) in
@@ -171,11 +171,11 @@ nodes_of c w h =
           named = subst IsUuid (sym k.0.0) h.named;
           placed = (k.1.0, omega (arith, k.1.1));
           few_nodes = omega (arith, h.few_nodes);
-          some_network = subst (All (λ m. (1 ≤ m) × (m ≤ 255))) (sym e) h.some_network;
+          some_network = subst (AllByRecursion (λ m. (1 ≤ m) × (m ≤ 255))) (sym e) h.some_network;
           no_gap = ap gapless e ∙ h.no_gap;
         }
 
-nodes : (l : Line) → All (λ s. IsConsist s.consist) l → All IsNode (awake l)
+nodes : (l : Line) → AllByRecursion (λ s. IsConsist s.consist) l → AllByRecursion IsNode (awake l)
 nodes [] h = tt
 nodes (s ∷ l) h = All-append IsNode (awake_of s) (awake l) (nodes_of s.consist s.way h.0) (nodes l h.1)
 

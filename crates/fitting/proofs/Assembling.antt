@@ -1,7 +1,7 @@
 -- What is assembled is a line, and its awake nodes are those given. Assumes nothing.
 use Rattle.std.proofs.Common.{◌≡◌, ℕ, ◌≤◌, Bool, true, false, cond, eqb, List, [], ◌∷◌, ◌++◌, length, Some, None, Option, sym, refl, ap, ◌∙◌, subst, ap₂, append_assoc, append-nil, arith}
 use mathlib.Core.List.{map-append}
-use Rattle.std.specs.List.{AllByRecursion as All}
+use Rattle.std.specs.List.{AllByRecursion}
 use Rattle.std.proofs.lemmas.List.{length-map}
 use Rattle.std.proofs.ByRecursion.{All-append, All-weaker}
 use Rattle.std.proofs.lemmas.Bool.{eqb-true, eqb-false, ltb-true, and_parts, or_parts}
@@ -19,16 +19,16 @@ pub record IsNode (a : Awake) : Type 0 where
   pub named : IsUuid a.uuid
   pub placed : (1 ≤ a.position) × (a.position ≤ length a.masks)
   pub few_nodes : length a.masks ≤ 4
-  pub some_network : All (λ m. (1 ≤ m) × (m ≤ 255)) a.masks
+  pub some_network : AllByRecursion (λ m. (1 ≤ m) × (m ≤ 255)) a.masks
   pub no_gap : gapless a.masks ≡ true
 
 pub record Nodes (xs : List Awake) : Type 0 where
   pub some : 1 ≤ length xs
-  pub each : All IsNode xs
-  pub real_macs : All IsMac (macs xs)
+  pub each : AllByRecursion IsNode xs
+  pub real_macs : AllByRecursion IsMac (macs xs)
   pub own_macs : Different (macs xs)
 
-different_push : (xs : List ℕ) (x : ℕ) → Different xs → All (λ y. x ≡ y → ⊥) xs → Different (xs ++ x ∷ [])
+different_push : (xs : List ℕ) (x : ℕ) → Different xs → AllByRecursion (λ y. x ≡ y → ⊥) xs → Different (xs ++ x ∷ [])
 different_push xs x d h = different_append xs (x ∷ []) d (tt, tt) (All-weaker _ _ (λ y n. (λ e. n (sym e), tt)) xs h)
 
 -- what the tests tell
@@ -44,7 +44,7 @@ masks_same [] (n ∷ ns) e = absurd (let z : ◌≡◌ {A = ℕ} 0 1 = cc in ome
 masks_same (m ∷ ms) [] e = absurd (let z : ◌≡◌ {A = ℕ} 0 1 = cc in omega arith)
 masks_same (m ∷ ms) (n ∷ ns) e = let r = and_parts (eqb m n) (same_masks ms ns) e in ap₂ ◌∷◌ (eqb-true m n r.0) (masks_same ms ns r.1)
 
-not_among : (u : ℕ) (vs : List ℕ) → among u vs ≡ false → All (λ v. u ≡ v → ⊥) vs
+not_among : (u : ℕ) (vs : List ℕ) → among u vs ≡ false → AllByRecursion (λ v. u ≡ v → ⊥) vs
 not_among u [] e = tt
 not_among u (v ∷ vs) e = let r = or_parts (eqb u v) (among u vs) e in (eqb-false u v r.0, not_among u vs r.1)
 
@@ -67,16 +67,16 @@ upto_self turned p = omega arith
 
 -- what holds of a line but for its MACs
 pub record Sound (l : Line) : Type 0 where
-  pub consists : All (λ s. IsConsist s.consist) l
-  pub some_awake : All (λ s. 1 ≤ length (awake_of s)) l
+  pub consists : AllByRecursion (λ s. IsConsist s.consist) l
+  pub some_awake : AllByRecursion (λ s. 1 ≤ length (awake_of s)) l
   pub own_uuids : Different (uuids l)
 
 record PartSound (b : Part) : Type 0 where
   done : Sound b.finished
   consist : IsConsist b.growing.consist
   some : 1 ≤ length (awake_of b.growing)
-  own : All (λ v. b.growing.consist.uuid ≡ v → ⊥) (uuids b.finished)
-  reach : All (λ a. Upto b.growing.way a.position b.last) (awake_of b.growing)
+  own : AllByRecursion (λ v. b.growing.consist.uuid ≡ v → ⊥) (uuids b.finished)
+  reach : AllByRecursion (λ a. Upto b.growing.way a.position b.last) (awake_of b.growing)
 
 uuids_append : (l : Line) (s : Coupled) → uuids (l ++ s ∷ []) ≡ uuids l ++ s.consist.uuid ∷ []
 uuids_append l s = map-append (λ t. t.consist.uuid) l (s ∷ [])
@@ -99,7 +99,7 @@ is_consist a c h u k =
       named = subst IsUuid u h.named;
       some_node = omega (arith, h.placed);
       few_nodes = omega (arith, h.few_nodes);
-      some_network = subst (All (λ m. (1 ≤ m) × (m ≤ 255))) (sym k) h.some_network;
+      some_network = subst (AllByRecursion (λ m. (1 ≤ m) × (m ≤ 255))) (sym k) h.some_network;
       no_gap = ap gapless k ∙ h.no_gap;
     }
 
@@ -115,7 +115,7 @@ module _ (b : Part) (a : Awake) (h : PartSound b) (n : IsNode a) (u : a.uuid ≡
       let q = and_parts _ _ p.0 in
       (masks_same _ _ q.0, way_same _ _ q.1, p.1)
 
-  past : All (λ x. Past b.growing.way x.position a.position) (awake_of b.growing)
+  past : AllByRecursion (λ x. Past b.growing.way x.position a.position) (awake_of b.growing)
   past = All-weaker _ _ (λ x k. upto_past b.growing.way x.position b.last a.position k parts.2) _ h.reach
 
   grown_of : awake_of (woken a b.growing) ≡ awake_of b.growing ++ a ∷ []
@@ -129,7 +129,7 @@ module _ (b : Part) (a : Awake) (h : PartSound b) (n : IsNode a) (u : a.uuid ≡
     consist = is_consist a (woken a b.growing).consist n u (wake_masks 1 a.position a.mac b.growing.consist.nodes ∙ sym parts.0);
     some = subst (λ r. 1 ≤ length r) (sym grown_of) (some_last (awake_of b.growing) a);
     own = h.own;
-    reach = subst (All (λ x. Upto b.growing.way x.position a.position)) (sym grown_of)
+    reach = subst (AllByRecursion (λ x. Upto b.growing.way x.position a.position)) (sym grown_of)
         (All-append _ (awake_of b.growing) (a ∷ []) (All-weaker _ _ (λ x k. past_upto b.growing.way x.position a.position k) _ past) (upto_self b.growing.way a.position, tt));
   }
 
@@ -139,7 +139,7 @@ module _ (b : Part) (a : Awake) (h : PartSound b) (n : IsNode a) (u : a.uuid ≡
       ∙ sym (append_assoc (awake b.finished) (awake_of b.growing) (a ∷ [])) ∙ ap (λ r. r ++ a ∷ []) (sym (awake_all b.finished b.growing))
 
 -- a node that starts a consist behind finished ones
-start_sound : (l : Line) (a : Awake) → Sound l → IsNode a → All (λ v. a.uuid ≡ v → ⊥) (uuids l) → PartSound (record { finished = l; growing = begun a; last = a.position })
+start_sound : (l : Line) (a : Awake) → Sound l → IsNode a → AllByRecursion (λ v. a.uuid ≡ v → ⊥) (uuids l) → PartSound (record { finished = l; growing = begun a; last = a.position })
 start_sound l a h n d =
     let e = begun_awake a n.placed.0 n.placed.1 in
     record {
@@ -147,16 +147,16 @@ start_sound l a h n d =
       consist = is_consist a (begun a).consist n refl (wake_masks 1 a.position a.mac (asleep a.masks) ∙ asleep_masks a.masks);
       some = subst (λ r. 1 ≤ length r) (sym e) (omega arith);
       own = d;
-      reach = subst (All (λ x. Upto a.way x.position a.position)) (sym e) (upto_self a.way a.position, tt);
+      reach = subst (AllByRecursion (λ x. Upto a.way x.position a.position)) (sym e) (upto_self a.way a.position, tt);
     }
 
 next_awake : (l : Line) (a : Awake) → IsNode a → awake (l ++ begun a ∷ []) ≡ awake l ++ a ∷ []
 next_awake l a n = awake_all l (begun a) ∙ ap (λ r. awake l ++ r) (begun_awake a n.placed.0 n.placed.1)
 
-next_sound : (b : Part) (a : Awake) → PartSound b → IsNode a → (a.uuid ≡ b.growing.consist.uuid → ⊥) → All (λ v. a.uuid ≡ v → ⊥) (uuids b.finished) → PartSound (next b a)
+next_sound : (b : Part) (a : Awake) → PartSound b → IsNode a → (a.uuid ≡ b.growing.consist.uuid → ⊥) → AllByRecursion (λ v. a.uuid ≡ v → ⊥) (uuids b.finished) → PartSound (next b a)
 next_sound b a h n d k =
     start_sound (all_of b) a (sound_all b h) n
-    (subst (All (λ v. a.uuid ≡ v → ⊥)) (sym (uuids_append b.finished b.growing)) (All-append _ (uuids b.finished) (b.growing.consist.uuid ∷ []) k (d, tt)))
+    (subst (AllByRecursion (λ v. a.uuid ≡ v → ⊥)) (sym (uuids_append b.finished b.growing)) (All-append _ (uuids b.finished) (b.growing.consist.uuid ∷ []) k (d, tt)))
 
 put_sound : (b c : Part) (a : Awake) → PartSound b → IsNode a → put b a ≡ Some c → PartSound c × (awake (all_of c) ≡ awake (all_of b) ++ a ∷ [])
 put_sound b c a h n e = go _ _ _ refl refl refl e
@@ -176,13 +176,13 @@ put_sound b c a h n e = go _ _ _ refl refl refl e
         let k : next b a ≡ c = cc in
         subst Goal k (next_sound b a h n (eqb-false _ _ hx) (not_among _ _ hz), next_awake (all_of b) a n)
 
-all_sound : (xs : List Awake) (b : Part) (l : Line) → PartSound b → All IsNode xs → put_all b xs ≡ Some l → Sound l × (awake l ≡ awake (all_of b) ++ xs)
+all_sound : (xs : List Awake) (b : Part) (l : Line) → PartSound b → AllByRecursion IsNode xs → put_all b xs ≡ Some l → Sound l × (awake l ≡ awake (all_of b) ++ xs)
 all_sound [] b l h n e =
     let k : all_of b ≡ l = cc in
     (subst Sound k (sound_all b h), ap awake (sym k) ∙ sym (append-nil (awake (all_of b))))
 all_sound (a ∷ xs) b l h n e = go (put b a) refl (λ c. all_sound xs c l) e
   where
-    go : (o : Option Part) → put b a ≡ o → ((c : Part) → PartSound c → All IsNode xs → put_all c xs ≡ Some l → Sound l × (awake l ≡ awake (all_of c) ++ xs))
+    go : (o : Option Part) → put b a ≡ o → ((c : Part) → PartSound c → AllByRecursion IsNode xs → put_all c xs ≡ Some l → Sound l × (awake l ≡ awake (all_of c) ++ xs))
         → elim o [ Some c ↦ put_all c xs | None ↦ None ] ≡ Some l → Sound l × (awake l ≡ awake (all_of b) ++ a ∷ xs)
     go (Some c) k ih e =
         let s = put_sound b c a h n.0 k in
@@ -205,7 +205,7 @@ assemble_sound (a ∷ xs) l h e =
         consists = r.0.consists;
         some_awake = r.0.some_awake;
         own_uuids = r.0.own_uuids;
-        real_macs = subst (λ ys. All IsMac (macs ys)) (sym w) h.real_macs;
+        real_macs = subst (λ ys. AllByRecursion IsMac (macs ys)) (sym w) h.real_macs;
         own_macs = subst (λ ys. Different (macs ys)) (sym w) h.own_macs;
       },
       w,

@@ -1,6 +1,6 @@
 -- A chain of reports: the neighbours that its reports name, and the chain from its other end. Assumes nothing.
 use Rattle.std.proofs.Common.{◌≡◌, ℕ, ◌<◌, ◌⊎◌, List, [], ◌∷◌, map, reverse, sym, refl, ap, ◌∙◌, subst, inl, inr, ⊎_elim, arith}
-use Rattle.std.specs.List.{AllByRecursion as All}
+use Rattle.std.specs.List.{AllByRecursion}
 use Rattle.report.specs.Reports.{Report}
 use Rattle.train.specs.Line.{Way, forward, turned}
 use Rattle.train.specs.Truth.{Awake, facing, report, first_mac, reports, In, here, there}
@@ -65,10 +65,10 @@ absent_in m l (a ∷ xs) r n i = elim (in_cases i) [
 ]
 
 -- its MACs are those of the reports held
-pub real_macs : (held : List Report) (xs : List Awake) → OwnReports held → IsChain held xs → All IsMac (macs xs)
+pub real_macs : (held : List Report) (xs : List Awake) → OwnReports held → IsChain held xs → AllByRecursion IsMac (macs xs)
 real_macs held xs o c = go 0 xs (λ r i. o.real r (c.each_held r i))
   where
-    go : (l : ℕ) (ys : List Awake) → ((r : Report) → In r (reports l ys) → IsMac r.mac) → All IsMac (macs ys)
+    go : (l : ℕ) (ys : List Awake) → ((r : Report) → In r (reports l ys) → IsMac r.mac) → AllByRecursion IsMac (macs ys)
     go l [] h = tt
     go l (a ∷ ys) h = (h _ here, go a.mac ys (λ r i. h r (there i)))
 

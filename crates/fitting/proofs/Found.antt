@@ -1,7 +1,7 @@
 -- Where the report of a MAC stands, and marks. Assumes nothing.
 use Rattle.std.proofs.Common.{◌≡◌, ℕ, zero, suc, ◌+◌, ◌<◌, Bool, true, false, eqb, ◌⊎◌, List, [], ◌∷◌, map, length, get_or, set, Some, sym, refl, ap, ◌∙◌, subst, inl, inr, arith}
 use Rattle.std.proofs.lemmas.Bool.{eqb-true, eqb-false, cond-true, cond-false, cases_Bool, both_ways}
-use Rattle.std.specs.List.{AllByRecursion as All}
+use Rattle.std.specs.List.{AllByRecursion}
 use Rattle.report.specs.Reports.{Report}
 use Rattle.train.specs.Truth.{In, here, there}
 use Rattle.train.specs.Rules.{Different}
@@ -63,7 +63,7 @@ finds s (r ∷ rs) k i = elim (cases_Bool (eqb r.mac s.mac)) [
 ]
 
 -- another report has another MAC
-other_mac : (m : ℕ) (rs : List Report) (s : Report) → All (λ n. m ≡ n → ⊥) (map (λ r. r.mac) rs) → In s rs → m ≡ s.mac → ⊥
+other_mac : (m : ℕ) (rs : List Report) (s : Report) → AllByRecursion (λ n. m ≡ n → ⊥) (map (λ r. r.mac) rs) → In s rs → m ≡ s.mac → ⊥
 other_mac m rs s h i = all_in (λ n. m ≡ n → ⊥) s.mac (map (λ r. r.mac) rs) (in_map (λ r. r.mac) s rs i) h
 
 -- a MAC has one place

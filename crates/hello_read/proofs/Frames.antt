@@ -3,7 +3,7 @@ use Rattle.std.proofs.Common.{◌≡◌, ℕ, ◌+◌, ◌<◌, ◌≤◌, Bool,
 use Rattle.std.proofs.lemmas.Slice.Eq.{bytes_eq-Decides}
 use Rattle.std.proofs.lemmas.List.{append_assoc, take-append-drop, take_at, drop_at, drop-drop, length-append, length-drop, length-take-le}
 use Rattle.std.proofs.lemmas.Bool.{and_from, and_parts, eqb-true, eq-eqb, leb-true, le-leb}
-use Rattle.std.specs.List.{AllByRecursion as All}
+use Rattle.std.specs.List.{AllByRecursion}
 use Rattle.hello_read.specs.declared.fault.FieldFault.{FieldFault}
 use Rattle.hello_read.specs.declared.fault.TlvFault.{TlvFault}
 use Rattle.hello_read.specs.Hellos.{is_one_or_two, is_line, is_mac, first_wrong}
@@ -21,7 +21,7 @@ tlvs_bytes_append [] us = refl
 tlvs_bytes_append (t ∷ ts) us = ap (λ l. tlv_bytes t ++ l) (tlvs_bytes_append ts us) ∙ sym (append_assoc (tlv_bytes t) (tlvs_bytes ts) (tlvs_bytes us))
 
 run_others :
-    (p n : ℕ) (f g : Option ℕ) (ts us : List Tlv) → 3 ≤ n → All Other ts → Run (p + length (tlvs_bytes ts)) (n + length ts) f g us → Run p n f g (ts ++ us)
+    (p n : ℕ) (f g : Option ℕ) (ts us : List Tlv) → 3 ≤ n → AllByRecursion Other ts → Run (p + length (tlvs_bytes ts)) (n + length ts) f g us → Run p n f g (ts ++ us)
 run_others p n f g [] us late all so =
     let place : p + 0 ≡ p = omega arith in
     let nth : n + 0 ≡ n = omega arith in
@@ -36,7 +36,7 @@ run_others p n f g (t ∷ ts) us late all so =
           (subst (λ m. Run (q + length (tlvs_bytes ts)) m f g us) nth (subst (λ k. Run k (n + length (t ∷ ts)) f g us) place so)),
     )
 
-run_after : (p n : ℕ) (f : Option ℕ) (ts : List Tlv) → 3 ≤ n → All Other ts → Run p n f f ts
+run_after : (p n : ℕ) (f : Option ℕ) (ts : List Tlv) → 3 ≤ n → AllByRecursion Other ts → Run p n f f ts
 run_after p n f [] late all = (late, refl)
 run_after p n f (t ∷ ts) late all = (f, inr (inl (late, all.0, refl)), run_after (p + (2 + length t.contents)) (n + 1) f ts (omega arith) all.1)
 
@@ -44,7 +44,7 @@ no : {X : Type 0} → ◌≡◌ {A = ℕ} 0 1 → X
 no z = absurd (let n : ⊥ = omega arith in n)
 
 -- behind the HELLO
-after_run : (p n q r : ℕ) (ts : List Tlv) → 3 ≤ n → Run p n (Some q) (Some r) ts → All Other ts × (q ≡ r)
+after_run : (p n q r : ℕ) (ts : List Tlv) → 3 ≤ n → Run p n (Some q) (Some r) ts → AllByRecursion Other ts × (q ≡ r)
 after_run p n q r [] late so = (tt, cc so.1)
 after_run p n q r (t ∷ ts) late so =
     let q' = p + (2 + length t.contents) in
@@ -62,9 +62,9 @@ record Later (p q : ℕ) (ts : List Tlv) : Type 0 where
   hello : Tlv
   after : List Tlv
   is : ts ≡ before ++ hello ∷ after
-  others_before : All Other before
+  others_before : AllByRecursion Other before
   one : HelloTlv hello
-  others_after : All Other after
+  others_after : AllByRecursion Other after
   place : q ≡ p + length (tlvs_bytes before)
 
 later : (p n q : ℕ) (ts : List Tlv) → 3 ≤ n → Run p n None (Some q) ts → Later p q ts
@@ -301,8 +301,8 @@ record Tlvs (q : ℕ) (bs : List ℕ) : Type 0 where
   first : Typed 1 chassis
   second : Typed 2 port
   third : Typed 3 time
-  others_before : All Other before
-  others_after : All Other after
+  others_before : AllByRecursion Other before
+  others_after : AllByRecursion Other after
   one : HelloTlv hello
   place : q ≡ 18 + length (tlvs_bytes (front chassis port time before))
 

@@ -1,6 +1,6 @@
 -- What a HELLO frame is: a head, TLVs and an end; types 1, 2 and 3 first, one HELLO behind them, its fields in range. Assumes nothing.
 use Rattle.std.specs.Prelude.{◌≡◌, ℕ, ◌+◌, ◌≤◌, Bool, true, false, ◌&&◌, List, [], ◌∷◌, ◌++◌, length, Ok, ◌==◌}
-use Rattle.std.specs.List.{AllByRecursion as All}
+use Rattle.std.specs.List.{AllByRecursion}
 use Rattle.hello_read.specs.Hellos.{is_one_or_two, is_line, is_mac}
 use Rattle.hello_read.specs.Layout.{organization, head, version_1, number_at, hello_in}
 use Rattle.hello_read.specs.Refusals.{Answer}
@@ -71,8 +71,8 @@ pub record IsHelloFrame (bs : List ℕ) (a : Answer) : Type 0 where
   pub first : Typed 1 chassis
   pub second : Typed 2 port
   pub third : Typed 3 time
-  pub others_before : All Other before
-  pub others_after : All Other after
+  pub others_before : AllByRecursion Other before
+  pub others_after : AllByRecursion Other after
   pub one : HelloTlv hello
   pub in_range : InRange hello.contents
   pub fields : a.hello ≡ hello_in hello.contents

@@ -1,6 +1,6 @@
 -- What is held, as a history grows by one event. Assumes nothing.
 use Rattle.std.proofs.Common.{◌≡◌, ℕ, ◌≤◌, ◌⊎◌, List, [], ◌∷◌, ◌++◌, None, Ok, Result, sym, refl, ap, ◌∙◌, subst, inl, inr, arith}
-use Rattle.std.specs.List.{AllByRecursion as All}
+use Rattle.std.specs.List.{AllByRecursion}
 use Rattle.keyed.specs.Orders.{numbers}
 use Rattle.keyed.specs.Find.{found}
 use Rattle.keyed.specs.Store.{stored}
@@ -63,7 +63,7 @@ held_more h e r n k = record {
 }
 
 cases_at : (r : Report) (h : History) (e : Event) (since earlier : History) (t : Event) → e ∷ h ≡ since ++ t ∷ earlier → Takes r t
-    → All (λ d. Replaces r.mac d → ⊥) since → Takes r e ⊎ ((Replaces r.mac e → ⊥) × Held h r)
+    → AllByRecursion (λ d. Replaces r.mac d → ⊥) since → Takes r e ⊎ ((Replaces r.mac e → ⊥) × Held h r)
 cases_at r h e [] earlier t p k n = let q : t ≡ e = cc in inl (subst (λ (d : Event). Takes r d) q k)
 cases_at r h e (d ∷ ds) earlier t p k n =
     let q : d ≡ e = cc in

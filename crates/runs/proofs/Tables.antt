@@ -1,6 +1,6 @@
 -- Reports in a table, as members of a list. Assumes nothing, but where it says that the reports rise.
 use Rattle.std.proofs.Common.{◌≡◌, ℕ, zero, suc, ◌≤◌, Bool, true, false, cond, ◌⊎◌, List, [], ◌∷◌, map, length, Some, None, Ok, Err, Result, Less, sym, refl, ap, ◌∙◌, subst, inl, inr, arith}
-use Rattle.std.specs.List.{AllByRecursion as All, slice_get}
+use Rattle.std.specs.List.{AllByRecursion, slice_get}
 use Rattle.std.proofs.lemmas.Bool.{cases_eq}
 use Rattle.keyed.specs.declared.store.Full.{Full}
 use Rattle.keyed.specs.Orders.{numbers}
@@ -80,7 +80,7 @@ pub full_only : (xs : List Report) (r : Report) (room : ℕ) → refused numbers
 full_only xs r room e = is_map.full_only r room xs (ap (λ b. cond b (Err full) (Ok (length (stored numbers own_mac r xs)))) e)
 
 -- each has a MAC of its own
-above_other : (k : ℕ) (xs : List Report) → Above numbers own_mac k xs → All (λ m. k ≡ m → ⊥) (map own_mac xs)
+above_other : (k : ℕ) (xs : List Report) → Above numbers own_mac k xs → AllByRecursion (λ m. k ≡ m → ⊥) (map own_mac xs)
 above_other k [] h = tt
 above_other k (x ∷ xs) h = (λ e. other h.0 e, above_other k xs h.1)
   where

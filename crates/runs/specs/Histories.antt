@@ -1,6 +1,6 @@
 -- What a history of calls has brought about, from its calls and answers alone. The latest event comes first. Assumes nothing.
 use Rattle.std.specs.Prelude.{◌≡◌, ℕ, ◌+◌, ◌-◌, ◌<◌, Bool, true, false, cond, ◌⊎◌, List, [], ◌∷◌, ◌++◌, Ok}
-use Rattle.std.specs.List.{AllByRecursion as All}
+use Rattle.std.specs.List.{AllByRecursion}
 use Rattle.keyed.specs.Orders.{numbers}
 use Rattle.keyed.specs.Rising.{Rising}
 use Rattle.report.specs.Reports.{Report}
@@ -44,7 +44,7 @@ pub record Held (h : History) (r : Report) : Type 0 where
   pub earlier : History
   pub parts : h ≡ since ++ taking ∷ earlier
   pub takes : Takes r taking
-  pub kept : All (λ e. Replaces r.mac e → ⊥) since
+  pub kept : AllByRecursion (λ e. Replaces r.mac e → ⊥) since
 
 -- the reports held, in rising order of their MACs
 pub record ReportsHeld (h : History) (hs : List Report) : Type 0 where
@@ -91,7 +91,7 @@ pub record Accepted (e : Event) : Type 0 where
 
 -- none was accepted
 abbrev pub NoneAccepted : History → Type 0
-NoneAccepted h = All (λ e. Accepted e → ⊥) h
+NoneAccepted h = AllByRecursion (λ e. Accepted e → ⊥) h
 
 -- the last that was accepted, and what had happened before it
 pub record LastAccepted (h : History) (e : Event) (before : History) : Type 0 where

@@ -1,6 +1,6 @@
 -- Worked cases, as a list. Assumes nothing.
 use Rattle.std.specs.Prelude.{◌≡◌, ℕ, ◌+◌, false, List, [], ◌∷◌, ◌++◌, map, replicate, Some, None, Err, Option}
-use Rattle.std.specs.List.{AllByRecursion as All}
+use Rattle.std.specs.List.{AllByRecursion}
 use Rattle.report.specs.Reports.{Report}
 use Rattle.report.specs.Layout.{words}
 use Rattle.train.specs.Line.{forward, Line}
@@ -95,4 +95,4 @@ cases =
     ∷ []
 
 abbrev pub WorkedCases : Type 0
-WorkedCases = All Holds cases
+WorkedCases = AllByRecursion Holds cases

@@ -1,7 +1,7 @@
 -- Lines that agree give one directory, and keep the same rules on consists. Assumes nothing.
 use Rattle.std.proofs.Common.{◌≡◌, ◌≤◌, List, [], ◌∷◌, map, length, sym, refl, ap, ◌∙◌, subst, inl, inr, ⊎_elim}
 use mathlib.Core.List.{head-eq_of_cons-eq, tail-eq_of_cons-eq, cons-ne-nil}
-use Rattle.std.specs.List.{AllByRecursion as All}
+use Rattle.std.specs.List.{AllByRecursion}
 use Rattle.report.specs.Masks.{gapless}
 use Rattle.report.specs.Reports.{Report}
 use Rattle.train.specs.Line.{Consist, masks, Line, flip}
@@ -47,11 +47,11 @@ consist_same c d u m h =
       named = subst IsUuid (sym u) h.named;
       some_node = subst (λ i. 1 ≤ i) (sym n) h.some_node;
       few_nodes = subst (λ i. i ≤ 4) (sym n) h.few_nodes;
-      some_network = subst (All (λ i. (1 ≤ i) × (i ≤ 255))) (sym m) h.some_network;
+      some_network = subst (AllByRecursion (λ i. (1 ≤ i) × (i ≤ 255))) (sym m) h.some_network;
       no_gap = ap gapless m ∙ h.no_gap;
     }
 
-consists_same : (l k : Line) → skeleton k ≡ skeleton l → All (λ s. IsConsist s.consist) l → All (λ s. IsConsist s.consist) k
+consists_same : (l k : Line) → skeleton k ≡ skeleton l → AllByRecursion (λ s. IsConsist s.consist) l → AllByRecursion (λ s. IsConsist s.consist) k
 consists_same [] [] e h = tt
 consists_same [] (t ∷ k) e h = absurd (cons-ne-nil _ _ e)
 consists_same (s ∷ l) [] e h = tt
@@ -68,7 +68,7 @@ agreement = record {
   both_ways = agree_both_ways;
   onward = agree_onward;
   limits = agreed Within within_same within_flip;
-  consists = agreed (λ l. All (λ s. IsConsist s.consist) l) consists_same (λ l h. all_flip (λ s. IsConsist s.consist) (λ s k. k) l h);
+  consists = agreed (λ l. AllByRecursion (λ s. IsConsist s.consist) l) consists_same (λ l h. all_flip (λ s. IsConsist s.consist) (λ s k. k) l h);
   own_uuids = agreed (λ l. Different (uuids l)) uuids_same (λ l d. subst Different (sym (uuids_flip l)) (different_reverse (uuids l) d));
 }
 

@@ -1,6 +1,6 @@
 -- Reports in a chain can be followed in one way alone. Assumes nothing.
 use Rattle.std.proofs.Common.{◌≡◌, ℕ, ◌≤◌, ◌⊎◌, List, [], ◌∷◌, length, sym, refl, ap, ◌∙◌, subst, ap₂, inl, inr, ⊎_elim, arith}
-use Rattle.std.specs.List.{AllByRecursion as All}
+use Rattle.std.specs.List.{AllByRecursion}
 use Rattle.report.specs.Reports.{Report}
 use Rattle.train.specs.Line.{Way, forward, turned, other}
 use Rattle.train.specs.Truth.{Awake, facing, report, first_mac, reports, In, here, there}
@@ -10,11 +10,11 @@ use Rattle.train.proofs.Members.{not_in, in_cases}
 
 -- none of the nodes has the MAC m
 abbrev pub Absent : ℕ → List Awake → Type 0
-Absent m xs = All (λ n. m ≡ n → ⊥) (macs xs)
+Absent m xs = AllByRecursion (λ n. m ≡ n → ⊥) (macs xs)
 
 -- each node has a MAC of its own
 abbrev pub OwnMacs : List Awake → Type 0
-OwnMacs xs = All IsMac (macs xs) × Different (macs xs)
+OwnMacs xs = AllByRecursion IsMac (macs xs) × Different (macs xs)
 
 -- among the reports held, a MAC has one report
 abbrev pub OneEach : List Report → Type 0
@@ -98,14 +98,14 @@ first_at_end a q = go a.way
     go forward = inl refl
     go turned = inr refl
 
-last_end : (p : ℕ) (xs : List Awake) → 1 ≤ p → All IsMac (macs xs) → (r : Report) → In r (reports p xs) → AtEnd r → r.mac ≡ last_or p xs
+last_end : (p : ℕ) (xs : List Awake) → 1 ≤ p → AllByRecursion IsMac (macs xs) → (r : Report) → In r (reports p xs) → AtEnd r → r.mac ≡ last_or p xs
 last_end p [] hp h r i o = absurd (not_in r i)
 last_end p (a ∷ []) hp h r i o = ⊎_elim (λ k. ap (λ s. s.mac) k) (λ j. absurd (not_in r j)) (in_cases r (report p a 0) [] i)
 last_end p (a ∷ b ∷ xs) hp h r i o =
     ⊎_elim (λ k. absurd (between a.way p b.mac hp h.1.0.0 (subst AtEnd k o))) (λ j. last_end a.mac (b ∷ xs) h.0.0 h.1 r j o)
     (in_cases r (report p a b.mac) (reports a.mac (b ∷ xs)) i)
 
-pub an_end : (xs : List Awake) → All IsMac (macs xs) → (r : Report) → In r (reports 0 xs) → AtEnd r → (r.mac ≡ first_mac xs) ⊎ (r.mac ≡ last_or 0 xs)
+pub an_end : (xs : List Awake) → AllByRecursion IsMac (macs xs) → (r : Report) → In r (reports 0 xs) → AtEnd r → (r.mac ≡ first_mac xs) ⊎ (r.mac ≡ last_or 0 xs)
 an_end [] h r i o = absurd (not_in r i)
 an_end (a ∷ xs) h r i o =
     ⊎_elim (λ k. inl (ap (λ s. s.mac) k)) (λ j. inr (last_end a.mac xs h.0.0 h.1 r j o)) (in_cases r (report 0 a (first_mac xs)) (reports a.mac xs) i)

@@ -1,6 +1,6 @@
 -- Reports fit one line alone, up to the end from which it is read. Assumes nothing.
 use Rattle.std.proofs.Common.{◌≡◌, ◌≤◌, ◌⊎◌, List, [], ◌∷◌, ◌++◌, map, reverse, length, sym, ap, ◌∙◌, subst, inl, inr, ⊎_elim, arith}
-use Rattle.std.specs.List.{AllByRecursion as All}
+use Rattle.std.specs.List.{AllByRecursion}
 use Rattle.std.proofs.lemmas.List.{length-map, length-reverse}
 use Rattle.std.proofs.ByRecursion.{All-weaker, All-map}
 use Rattle.report.specs.Reports.{Report}
@@ -20,7 +20,7 @@ uuids_flip l = map_reverse (λ s. s.consist.uuid) (map turn l) ∙ ap reverse (m
 macs_flip : (l : Line) → macs (awake (flip l)) ≡ reverse (macs (awake l))
 macs_flip l = ap macs (awake_flip l) ∙ map_reverse (λ a. a.mac) (map turn_awake (awake l)) ∙ ap reverse (map-map _ turn_awake (awake l))
 
-pub all_flip : (P : Coupled → Type 0) → ((s : Coupled) → P s → P (turn s)) → (l : Line) → All P l → All P (flip l)
+pub all_flip : (P : Coupled → Type 0) → ((s : Coupled) → P s → P (turn s)) → (l : Line) → AllByRecursion P l → AllByRecursion P (flip l)
 all_flip P f l h = all_reverse P (map turn l) (All-map P turn l (All-weaker _ _ f l h))
 
 some_turn : (s : Coupled) → 1 ≤ length (awake_of s) → 1 ≤ length (awake_of (turn s))
@@ -32,7 +32,7 @@ flip_is_line l h = record {
   consists = all_flip (λ s. IsConsist s.consist) (λ s k. k) l h.consists;
   some_awake = all_flip (λ s. 1 ≤ length (awake_of s)) some_turn l h.some_awake;
   own_uuids = subst Different (sym (uuids_flip l)) (different_reverse (uuids l) h.own_uuids);
-  real_macs = subst (All IsMac) (sym (macs_flip l)) (all_reverse _ (macs (awake l)) h.real_macs);
+  real_macs = subst (AllByRecursion IsMac) (sym (macs_flip l)) (all_reverse _ (macs (awake l)) h.real_macs);
   own_macs = subst Different (sym (macs_flip l)) (different_reverse (macs (awake l)) h.own_macs);
 }
 
@@ -43,7 +43,7 @@ some_awake_in l h = go l h.some_consist h.some_awake
     more [] ys k = absurd (omega arith)
     more (x ∷ xs) ys k = omega arith
 
-    go : (l : Line) → 1 ≤ length l → All (λ s. 1 ≤ length (awake_of s)) l → 1 ≤ length (awake l)
+    go : (l : Line) → 1 ≤ length l → AllByRecursion (λ s. 1 ≤ length (awake_of s)) l → 1 ≤ length (awake l)
     go [] k j = k
     go (s ∷ l) k j = more (awake_of s) (awake l) j.0
 

@@ -1,7 +1,7 @@
 -- The rows of nodes met: one for each network that a node serves, under the node's number. Assumes nothing.
 use Rattle.std.proofs.Common.{◌≡◌, ℕ, ◌+◌, ◌≤◌, List, [], ◌∷◌, ◌++◌, map, length, Some, None, Option, sym, refl, ap, ◌∙◌, subst, ap₂, ⊎_elim, arith}
 use mathlib.Core.List.{map-append}
-use Rattle.std.specs.List.{AllByRecursion as All}
+use Rattle.std.specs.List.{AllByRecursion}
 use Rattle.std.proofs.ByRecursion.{All-weaker}
 use Rattle.std.proofs.lemmas.List.{length-append, length-map}
 use Rattle.train.specs.Truth.{In, here, there}
@@ -79,7 +79,7 @@ module _ (xs : List Met) where
 abbrev pub Masked : Met → Type 0
 Masked x = (1 ≤ x.mask) × (x.mask ≤ 255)
 
-module _ (xs : List Met) (masked : All Masked xs) where
+module _ (xs : List Met) (masked : AllByRecursion Masked xs) where
   -- each node has a row
   pub node_row : (k : ℕ) (x : Met) → In (k, x) (counted 1 xs) → (r : Row) × In r (rows_met xs) × (r.node ≡ k) × (r.uuid ≡ x.uuid)
   node_row k x i =
@@ -105,11 +105,11 @@ module _ (xs : List Met) (masked : All Masked xs) where
 abbrev nodes_met : List Meeting → List ℕ
 nodes_met ms = map (λ m. m.node) ms
 
-rising_level : (n : ℕ) (cs rest : List ℕ) → All (λ k. n ≤ k) rest → Rising rest → All (λ k. n ≤ k) (map (λ c. n) cs ++ rest) × Rising (map (λ c. n) cs ++ rest)
+rising_level : (n : ℕ) (cs rest : List ℕ) → AllByRecursion (λ k. n ≤ k) rest → Rising rest → AllByRecursion (λ k. n ≤ k) (map (λ c. n) cs ++ rest) × Rising (map (λ c. n) cs ++ rest)
 rising_level n [] rest h r = (h, r)
 rising_level n (c ∷ cs) rest h r = let ih = rising_level n cs rest h r in ((omega arith, ih.0), ih)
 
-meetings_rise : (n : ℕ) (xs : List Met) → All (λ k. n ≤ k) (nodes_met (meetings n xs)) × Rising (nodes_met (meetings n xs))
+meetings_rise : (n : ℕ) (xs : List Met) → AllByRecursion (λ k. n ≤ k) (nodes_met (meetings n xs)) × Rising (nodes_met (meetings n xs))
 meetings_rise n [] = (tt, tt)
 meetings_rise n (x ∷ xs) =
     let cs = networks x.mask in
@@ -117,7 +117,7 @@ meetings_rise n (x ∷ xs) =
     let ih = meetings_rise (n + 1) xs in
     let e : nodes_met (meetings n (x ∷ xs)) ≡ map (λ c. n) cs ++ nodes_met rest =
     map-append (λ m. m.node) (map (meets n x) cs) rest ∙ ap (λ r. r ++ nodes_met rest) (map-map (λ m. m.node) (meets n x) cs) in
-    subst (λ ks. All (λ k. n ≤ k) ks × Rising ks) (sym e) (rising_level n cs (nodes_met rest) (All-weaker _ _ (λ k h. omega arith) (nodes_met rest) ih.0) ih.1)
+    subst (λ ks. AllByRecursion (λ k. n ≤ k) ks × Rising ks) (sym e) (rising_level n cs (nodes_met rest) (All-weaker _ _ (λ k h. omega arith) (nodes_met rest) ih.0) ih.1)
 
 pub nodes_rise : (xs : List Met) → Rising (map (λ r. r.node) (rows_met xs))
 nodes_rise xs =

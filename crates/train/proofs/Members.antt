@@ -2,7 +2,7 @@
 use Rattle.std.proofs.Common.{◌≡◌, ℕ, suc, ◌+◌, ◌<◌, ◌≤◌, Bool, true, false, cond, ◌⊎◌, List, [], ◌∷◌, ◌++◌, map, reverse, length, filter, sym, refl, ap, ◌∙◌, subst, ap₂, inl, inr, ⊎_elim, arith}
 use mathlib.Core.Bool.{false≢true}
 use mathlib.Core.List.{reverse_aux, reverse-cons, reverse-reverse, map-append}
-use Rattle.std.specs.List.{flat_map, AllByRecursion as All}
+use Rattle.std.specs.List.{flat_map, AllByRecursion}
 use Rattle.std.proofs.ByRecursion.{All-append, All-weaker, All-map}
 use Rattle.std.proofs.lemmas.Bool.{cases_eq}
 use Rattle.train.specs.Truth.{In, here, there}
@@ -94,19 +94,19 @@ in_kept p x (y ∷ xs) i e = go (p y) refl (in_cases x y xs i) (λ j. in_kept p 
     go false q (inr j) ih = ih j
 
 -- what holds of each element
-pub all_in : {A : Type 0} (P : A → Type 0) (x : A) (xs : List A) → In x xs → All P xs → P x
+pub all_in : {A : Type 0} (P : A → Type 0) (x : A) (xs : List A) → In x xs → AllByRecursion P xs → P x
 all_in P x xs here h = h.0
 all_in P x xs (there {xs = ys} i) h = all_in P x ys i h.1
 
-pub all_from_in : {A : Type 0} (P : A → Type 0) (xs : List A) → ((x : A) → In x xs → P x) → All P xs
+pub all_from_in : {A : Type 0} (P : A → Type 0) (xs : List A) → ((x : A) → In x xs → P x) → AllByRecursion P xs
 all_from_in P [] h = tt
 all_from_in P (x ∷ xs) h = (h x here, all_from_in P xs (λ y i. h y (there i)))
 
-all_reverse_aux : {A : Type 0} (P : A → Type 0) (xs r : List A) → All P xs → All P r → All P (reverse_aux xs r)
+all_reverse_aux : {A : Type 0} (P : A → Type 0) (xs r : List A) → AllByRecursion P xs → AllByRecursion P r → AllByRecursion P (reverse_aux xs r)
 all_reverse_aux P [] r h k = k
 all_reverse_aux P (x ∷ xs) r h k = all_reverse_aux P xs (x ∷ r) h.1 (h.0, k)
 
-pub all_reverse : {A : Type 0} (P : A → Type 0) (xs : List A) → All P xs → All P (reverse xs)
+pub all_reverse : {A : Type 0} (P : A → Type 0) (xs : List A) → AllByRecursion P xs → AllByRecursion P (reverse xs)
 all_reverse P xs h = all_reverse_aux P xs [] h tt
 
 -- numbered elements
@@ -153,7 +153,7 @@ counted_run xs = record {
 }
 
 -- lists whose elements differ
-pub different_append : {A : Type 0} (xs ys : List A) → Different xs → Different ys → All (λ x. All (λ y. x ≡ y → ⊥) ys) xs → Different (xs ++ ys)
+pub different_append : {A : Type 0} (xs ys : List A) → Different xs → Different ys → AllByRecursion (λ x. AllByRecursion (λ y. x ≡ y → ⊥) ys) xs → Different (xs ++ ys)
 different_append [] ys d e h = e
 different_append (x ∷ xs) ys d e h = (All-append (λ z. x ≡ z → ⊥) xs ys d.0 h.0, different_append xs ys d.1 e h.1)
 

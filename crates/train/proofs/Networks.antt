@@ -3,7 +3,7 @@ use Rattle.std.proofs.Common.{◌≡◌, ℕ, zero, suc, ◌+◌, ◌-◌, ◌/�
 use mathlib.Core.Bool.{false≢true}
 use native.Mathlib.Nat.{zero-div}
 use lib.Bits.{bit_or}
-use Rattle.std.specs.List.{AllByRecursion as All}
+use Rattle.std.specs.List.{AllByRecursion}
 use Rattle.std.proofs.lemmas.Nat.{or_shr, or_mod, or_lt, mod_below}
 use Rattle.std.proofs.lemmas.Bool.{eqb-true, leb-true, and_parts, or_left, or_right, or_cases, cases_eq}
 use Rattle.report.specs.Masks.{serves, together, unbroken}
@@ -110,6 +110,6 @@ networks_of_together ms n j =
     (s.0, s.1, in_kept (serves s.0) n one_to_eight r.0 s.2)
 
 -- masks together have 8 bits
-pub together_below : (ms : List ℕ) → All (λ m. (1 ≤ m) × (m ≤ 255)) ms → together ms < 2 ^ 8
+pub together_below : (ms : List ℕ) → AllByRecursion (λ m. (1 ≤ m) × (m ≤ 255)) ms → together ms < 2 ^ 8
 together_below [] h = omega arith
 together_below (m ∷ ms) h = or_lt 8 m (together ms) (omega (arith, h.0.1)) (together_below ms h.1)

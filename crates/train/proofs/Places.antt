@@ -1,6 +1,6 @@
 -- The nodes of a line as they are met in its reading, each with its UUID and position. Assumes nothing.
 use Rattle.std.proofs.Common.{◌≡◌, ℕ, ◌+◌, ◌≤◌, List, [], ◌∷◌, map, length, sym, refl, ap, ◌∙◌, subst, ap₂, arith}
-use Rattle.std.specs.List.{flat_map, AllByRecursion as All}
+use Rattle.std.specs.List.{flat_map, AllByRecursion}
 use Rattle.std.proofs.lemmas.List.{length-append, length-map, length-reverse}
 use Rattle.train.specs.Line.{Way, forward, turned, masks, Coupled, Line}
 use Rattle.train.specs.Truth.{In}
@@ -40,7 +40,7 @@ met_of s = met_in s.consist.uuid (masks s.consist) s.way
 pub node_met : (l : Line) (s : Coupled) (p m : ℕ) → In s l → In (p, m) (counted 1 (masks s.consist)) → In (node_at s.consist.uuid s.way (p, m)) (met l)
 node_met l s p m i j = in_joined met_of s _ l i (consist_met s.consist.uuid (masks s.consist) s.way p m j)
 
-pub masked : (l : Line) → All (λ s. IsConsist s.consist) l → All Masked (met l)
+pub masked : (l : Line) → AllByRecursion (λ s. IsConsist s.consist) l → AllByRecursion Masked (met l)
 masked l h = all_from_in Masked (met l) (λ x i.
     let s = of_joined met_of x l i in
     let m = met_of_consist s.0.consist.uuid (masks s.0.consist) s.0.way x s.2 in
@@ -92,7 +92,7 @@ met_length (s ∷ l) =
 pub nodes_read : (l : Line) → length (met (reading l)) ≡ node_count l
 nodes_read l = met_length (reading l) ∙ total_reading _ l
 
-pub some_node : (l : Line) → 1 ≤ length l → All (λ s. IsConsist s.consist) l → 1 ≤ node_count l
+pub some_node : (l : Line) → 1 ≤ length l → AllByRecursion (λ s. IsConsist s.consist) l → 1 ≤ node_count l
 some_node [] n h = absurd (omega arith)
 some_node (s ∷ l) n h = omega (arith, h.0.some_node)
 

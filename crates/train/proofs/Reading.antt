@@ -1,7 +1,7 @@
 -- A line is read in the same way from both ends, and its rows depend on the skeleton alone. Assumes nothing.
 use Rattle.std.proofs.Common.{◌≡◌, ℕ, ◌≤◌, Bool, true, false, cond, ltb, ◌⊎◌, List, [], ◌∷◌, ◌++◌, map, reverse, length, sym, refl, ap, ◌∙◌, subst, inl, inr, ⊎_elim, arith}
 use mathlib.Core.List.{reverse_aux}
-use Rattle.std.specs.List.{flat_map, AllByRecursion as All}
+use Rattle.std.specs.List.{flat_map, AllByRecursion}
 use Rattle.std.proofs.lemmas.List.{length-map, length-reverse}
 use Rattle.std.proofs.lemmas.Bool.{lt-ltb, le-ltb, cases_order}
 use Rattle.train.specs.Line.{Way, forward, turned, other, Consist, masks, Coupled, Line, turn, flip}
@@ -49,7 +49,7 @@ reading_long (s ∷ []) h = absurd (omega arith)
 reading_long (s ∷ t ∷ l) h = refl
 
 -- the UUID at the other end is one of the line's
-left_rev : (P : ℕ → Type 0) (l r : Line) → All P (uuids l) → P (left r) → P (left (reverse_aux (map turn l) r))
+left_rev : (P : ℕ → Type 0) (l r : Line) → AllByRecursion P (uuids l) → P (left r) → P (left (reverse_aux (map turn l) r))
 left_rev P [] r h k = k
 left_rev P (s ∷ l) r h k = left_rev P l (turn s ∷ r) h.1 h.0
 

@@ -1,7 +1,7 @@
 -- Subnets are numbered from 1 without a gap, one to each network of each consist. Assumes nothing.
 use Rattle.std.proofs.Common.{◌≡◌, ℕ, suc, ◌+◌, ◌≤◌, Bool, true, false, cond, ◌&&◌, eqb, ◌⊎◌, List, [], ◌∷◌, map, length, Some, None, Option, sym, refl, ap, ◌∙◌, subst, ap₂, inl, inr, ⊎_elim, arith}
 use mathlib.Core.Bool.{false≢true}
-use Rattle.std.specs.List.{AllByRecursion as All}
+use Rattle.std.specs.List.{AllByRecursion}
 use Rattle.std.proofs.lemmas.List.{length-map}
 use Rattle.std.proofs.lemmas.Bool.{eqb-true, eq-eqb, and_parts, and_from, cases_eq}
 use Rattle.train.specs.Truth.{In, here, there}
@@ -53,7 +53,7 @@ given_key u c s [] e = absurd (not_none s e)
 given_key u c s (r ∷ fs) e =
     ⊎_elim (λ h. subst (λ p. In p (key r ∷ keys fs)) (ap₂ (λ x y. (x, y)) h.0 h.1) here) (λ h. there (given_key u c s fs h)) (given_cases r fs u c s e)
 
-new_key : (u c : ℕ) (fs : List Row) → given u c fs ≡ None → All (λ k. (u, c) ≡ k → ⊥) (keys fs)
+new_key : (u c : ℕ) (fs : List Row) → given u c fs ≡ None → AllByRecursion (λ k. (u, c) ≡ k → ⊥) (keys fs)
 new_key u c [] e = tt
 new_key u c (r ∷ fs) e = let m = given_none r fs u c e in (m.0, new_key u c fs m.1)
 
@@ -95,7 +95,7 @@ pub record Table (fs : List Row) (rs : List Row) : Type 0 where
   pub all : List Row
   pub firsts : Firsts all
   pub keeps : (u c s : ℕ) → given u c fs ≡ Some s → given u c all ≡ Some s
-  pub found : All (λ r. given r.uuid r.cn all ≡ Some r.subnet) rs
+  pub found : AllByRecursion (λ r. given r.uuid r.cn all ≡ Some r.subnet) rs
   pub of_rows : (r : Row) → In r all → In r fs ⊎ In r rs
 
 -- another row in front does not change what was given

@@ -1,6 +1,6 @@
 -- Lists of numbers that run from 1 without a gap, or rise. Assumes nothing.
 use Rattle.std.specs.Prelude.{ℕ, ◌+◌, ◌≤◌, max, Bool, true, ◌&&◌, List, [], ◌∷◌, nat_le}
-use Rattle.std.specs.List.{AllByRecursion as All}
+use Rattle.std.specs.List.{AllByRecursion}
 use Rattle.train.specs.Truth.{In}
 
 -- the numbers of the list are those from 1 to n: no other, and each of them
@@ -11,7 +11,7 @@ pub record RunsTo (n : ℕ) (xs : List ℕ) : Type 0 where
 -- none is above one behind it
 abbrev pub Rising : List ℕ → Type 0
 Rising [] = Unit {0}
-Rising (x ∷ xs) = All (λ y. x ≤ y) xs × Rising xs
+Rising (x ∷ xs) = AllByRecursion (λ y. x ≤ y) xs × Rising xs
 
 -- the numbers from 1 on first occur in their order: each is at most one more than the highest before it
 abbrev pub climbs : ℕ → List ℕ → Bool

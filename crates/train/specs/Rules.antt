@@ -1,6 +1,6 @@
 -- The rules on lines, and the three limits apart. Assumes nothing.
 use Rattle.std.specs.Prelude.{◌≡◌, ℕ, ◌+◌, ◌^◌, ◌<◌, ◌≤◌, true, List, [], ◌∷◌, map, length, filter, ◌≢◌}
-use Rattle.std.specs.List.{AllByRecursion as All}
+use Rattle.std.specs.List.{AllByRecursion}
 use Rattle.report.specs.Masks.{serves, together, gapless}
 use Rattle.train.specs.Line.{Consist, masks, Line}
 use Rattle.train.specs.Truth.{Awake, awake_of, awake}
@@ -16,7 +16,7 @@ consist_networks c = networks (together (masks c))
 -- each differs from all behind it
 abbrev pub Different : {A : Type 0} → List A → Type 0
 Different [] = Unit {0}
-Different (x ∷ xs) = All (λ y. x ≢ y) xs × Different xs
+Different (x ∷ xs) = AllByRecursion (λ y. x ≢ y) xs × Different xs
 
 abbrev pub uuids : Line → List ℕ
 uuids l = map (λ s. s.consist.uuid) l
@@ -34,16 +34,16 @@ pub record IsConsist (c : Consist) : Type 0 where
   pub named : IsUuid c.uuid
   pub some_node : 1 ≤ length c.nodes
   pub few_nodes : length c.nodes ≤ 4
-  pub some_network : All (λ m. (1 ≤ m) × (m ≤ 255)) (masks c)
+  pub some_network : AllByRecursion (λ m. (1 ≤ m) × (m ≤ 255)) (masks c)
   pub no_gap : gapless (masks c) ≡ true
 
 -- a line, its limits aside
 pub record IsLine (l : Line) : Type 0 where
   pub some_consist : 1 ≤ length l
-  pub consists : All (λ s. IsConsist s.consist) l
-  pub some_awake : All (λ s. 1 ≤ length (awake_of s)) l
+  pub consists : AllByRecursion (λ s. IsConsist s.consist) l
+  pub some_awake : AllByRecursion (λ s. 1 ≤ length (awake_of s)) l
   pub own_uuids : Different (uuids l)
-  pub real_macs : All IsMac (macs (awake l))
+  pub real_macs : AllByRecursion IsMac (macs (awake l))
   pub own_macs : Different (macs (awake l))
 
 -- a sum over the consists

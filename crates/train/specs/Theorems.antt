@@ -1,6 +1,6 @@
 -- What is proved of lines, their reports and their directories. Assumes nothing.
 use Rattle.std.specs.Prelude.{◌≡◌, ℕ, ◌≤◌, true, ◌⊎◌, List, [], ◌∷◌, map, length}
-use Rattle.std.specs.List.{AllByRecursion as All}
+use Rattle.std.specs.List.{AllByRecursion}
 use Rattle.report.specs.Reports.{Report}
 use Rattle.train.specs.Line.{Coupled, Line, flip}
 use Rattle.train.specs.Truth.{true_reports, In, Fits}
@@ -49,7 +49,7 @@ pub record Agreement : Type 0 where
   -- the limits hold for all lines that agree, or for none
   pub limits : (l k : Line) → Agree l k → Within l → Within k
   -- and so do the rules on each consist
-  pub consists : (l k : Line) → Agree l k → All (λ s. IsConsist s.consist) l → All (λ s. IsConsist s.consist) k
+  pub consists : (l k : Line) → Agree l k → AllByRecursion (λ s. IsConsist s.consist) l → AllByRecursion (λ s. IsConsist s.consist) k
   -- and that UUIDs differ
   pub own_uuids : (l k : Line) → Agree l k → Different (uuids l) → Different (uuids k)
 
@@ -130,4 +130,4 @@ pub record LimitsSuffice : Type 0 where
   -- within the limits there are at most 128 rows
   pub few_rows : (l : Line) → Within l → length (rows l) ≤ 128
   -- and each fits its bits
-  pub rows_fit : (l : Line) → IsLine l → Within l → All RowFits (rows l)
+  pub rows_fit : (l : Line) → IsLine l → Within l → AllByRecursion RowFits (rows l)
