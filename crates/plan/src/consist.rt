@@ -46,7 +46,7 @@ impl Plan for Consist {
 
     fn address(&self, place: Place) -> Option<u32>
         ensures answer { result ≡ consist_serves self.now.subnet (place_means place) }
-        ensures kept { self.now ≡ self.now }
+        ensures kept { self.exit.now ≡ self.entry.now }
         ensures said { Exactly (ConsistServes self.now.subnet (place_means place)) result }
     {
         if self.owns(place) && place.is_usable() {
@@ -58,7 +58,7 @@ impl Plan for Consist {
 
     fn place_at(&self, address: u32) -> Option<Place>
         ensures answer { located result ≡ consist_stands self.now.subnet address }
-        ensures kept { self.now ≡ self.now }
+        ensures kept { self.exit.now ≡ self.entry.now }
         ensures said { Exactly (λ p. ConsistServes self.now.subnet p address) (located result) }
     {
         if !is_local(address) {

@@ -26,7 +26,7 @@ impl<P: Plan> Plan for Home<P> {
 
     fn address(&self, place: Place) -> Option<u32>
         ensures answer { result ≡ home_serves self.now.subnet (P.Plan.serves self.now.below) (place_means place) }
-        ensures kept { self.now ≡ self.now }
+        ensures kept { self.exit.now ≡ self.entry.now }
         ensures said { Exactly (HomeServes self.now.subnet (λ p a. P.Plan.serves self.now.below p ≡ Some a) (place_means place)) result }
     {
         let own = Consist {
@@ -45,7 +45,7 @@ impl<P: Plan> Plan for Home<P> {
 
     fn place_at(&self, address: u32) -> Option<Place>
         ensures answer { located result ≡ home_stands self.now.subnet (P.Plan.stands self.now.below) address }
-        ensures kept { self.now ≡ self.now }
+        ensures kept { self.exit.now ≡ self.entry.now }
         ensures said { Exactly (λ p. HomeServes self.now.subnet (λ q a. P.Plan.serves self.now.below q ≡ Some a) p address) (located result) }
     {
         let own = Consist {

@@ -17,12 +17,12 @@ pub trait Plan {
     /// The address of a place, if it is served.
     fn address(&self, place: Place) -> Option<u32>
         ensures answer { result ≡ serves self.now (place_means place) }
-        ensures kept { self.now ≡ self.now };
+        ensures kept { self.exit.now ≡ self.entry.now };
 
     /// The place at an address, if a served one has it.
     fn place_at(&self, address: u32) -> Option<Place>
         ensures answer { located result ≡ stands self.now address }
-        ensures kept { self.now ≡ self.now };
+        ensures kept { self.exit.now ≡ self.entry.now };
 
     ghost lawful: { (plan : Self) → Lawful (serves plan) (stands plan) };
 }

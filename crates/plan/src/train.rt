@@ -31,7 +31,7 @@ impl Plan for Train {
 
     fn address(&self, place: Place) -> Option<u32>
         ensures answer { result ≡ train_serves self.now.backbone (place_means place) }
-        ensures kept { self.now ≡ self.now }
+        ensures kept { self.exit.now ≡ self.entry.now }
         ensures said { Exactly (TrainServes self.now.backbone (place_means place)) result }
     {
         if self.backbone > 3 || !place.is_usable() {
@@ -43,7 +43,7 @@ impl Plan for Train {
 
     fn place_at(&self, address: u32) -> Option<Place>
         ensures answer { located result ≡ train_stands self.now.backbone address }
-        ensures kept { self.now ≡ self.now }
+        ensures kept { self.exit.now ≡ self.entry.now }
         ensures said { Exactly (λ p. TrainServes self.now.backbone p address) (located result) }
     {
         if self.backbone > 3 {
