@@ -56,9 +56,9 @@ impl Composition<'_> {
     /// Its directory, if it is a line within the limits; else the first rule that it breaks.
     pub fn directory(&self) -> Result<Directory, LineFault>
         ensures answer { directory_told result ≡ directory_answer (described self.now.consists.now) }
-        ensures one { OnOk result (OneDirectory) }
-        ensures numbered { OnOk result (Numbered) }
-        ensures limits { OnOk result (LimitsSuffice) }
+        ensures one { OnOk result OneDirectory }
+        ensures numbered { OnOk result Numbered }
+        ensures limits { OnOk result LimitsSuffice }
     {
         self.check()?;
         Ok(directory_of(self.consists))

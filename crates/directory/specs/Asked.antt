@@ -1,5 +1,5 @@
 -- What a directory is asked, by its rows. Assumes nothing.
-use Rattle.std.specs.Prelude.{ℕ, zero, suc, ◌+◌, ◌-◌, min, max, Bool, cond, ◌&&◌, List, [], ◌∷◌, map, Some, None, filter, Option, ◌==◌, nat_eq}
+use Rattle.std.specs.Prelude.{ℕ, zero, suc, ◌+◌, ◌-◌, min, max, Bool, cond, ◌&&◌, List, [], ◌∷◌, map, Some, None, filter, Option, ◌==◌}
 use Rattle.train.specs.Line.{Way, forward, turned}
 use Rattle.train.specs.Rows.{Row}
 
@@ -28,7 +28,7 @@ highest n (x ∷ xs) = highest (max n x) xs
 
 -- the node numbers of a consist
 abbrev pub nodes_of : ℕ → List Row → List ℕ
-nodes_of u rs = map (λ r. r.node) (filter (λ r. nat_eq r.uuid u) rs)
+nodes_of u rs = map (λ r. r.node) (filter (λ r. r.uuid == u) rs)
 
 -- the position of node n in a consist whose nodes are those from `low` to `high`, counted from its end 1
 abbrev pub position : Way → ℕ → ℕ → ℕ → ℕ
@@ -43,7 +43,7 @@ position_in rs r =
 
 -- the UUID and the position of the node with this number
 abbrev pub place_of : ℕ → List Row → Option (ℕ × ℕ)
-place_of n rs = carried (λ r. (r.uuid, position_in rs r)) (first_where (λ r. nat_eq r.node n) rs)
+place_of n rs = carried (λ r. (r.uuid, position_in rs r)) (first_where (λ r. r.node == n) rs)
 
 -- a row of consist u whose node has position p
 abbrev pub is_at : List Row → ℕ → ℕ → Row → Bool
@@ -55,4 +55,4 @@ number_of u p rs = carried (λ r. r.node) (first_where (is_at rs u p) rs)
 
 -- the UUID and the network of a subnet; `given` says the subnet of a consist's network
 abbrev pub network_of : ℕ → List Row → Option (ℕ × ℕ)
-network_of s rs = carried (λ r. (r.uuid, r.cn)) (first_where (λ r. nat_eq r.subnet s) rs)
+network_of s rs = carried (λ r. (r.uuid, r.cn)) (first_where (λ r. r.subnet == s) rs)

@@ -6,7 +6,7 @@ ghost use Rattle.train.specs.Rows.{given};
 ghost use Rattle.directory.specs.Numbering.{NodesRun};
 ghost use Rattle.directory.specs.Meaning.{row_means, rows_mean, rows_of};
 ghost use Rattle.directory.specs.Asked.{first_where, carried, element, lowest, highest, nodes_of, position_in, place_of, number_of, network_of};
-ghost use Rattle.directory.specs.Keys.{has as has_key_lem, place_told};
+ghost use Rattle.directory.specs.Keys.{has as has_key, place_told};
 
 use crate::directory::Directory;
 use crate::row::{Row, Way, same_uuid};
@@ -22,7 +22,7 @@ enum Key {
 
 impl Row {
     fn has(&self, key: Key) -> bool
-        ensures { result ≡ has_key_lem key (row_means self.now) }
+        ensures { result ≡ has_key key (row_means self.now) }
     {
         match key {
             Key::Node(node) => self.node == node,
@@ -44,7 +44,7 @@ impl Row {
 
 /// The first row with a key.
 fn find(rows: &[Row], key: Key) -> Option<Row>
-    ensures { carried row_means result ≡ first_where (has_key_lem key) (rows_mean rows.now) }
+    ensures { carried row_means result ≡ first_where (has_key key) (rows_mean rows.now) }
 {
     for row in rows {
         if row.has(key) {

@@ -37,7 +37,7 @@ impl MetNode {
 impl Row {
     /// Whether it is of this network of this consist.
     pub(crate) fn is_of(&self, uuid: Uuid, network: u8) -> bool
-        ensures { result ≡ ((row_means self.now).uuid == (whole uuid)) && (self.now.network == network) }
+        ensures { result ≡ ((row_means self.now).uuid == whole uuid) && (self.now.network == network) }
     {
         same_uuid(self.uuid, uuid) && self.network == network
     }

@@ -1,5 +1,5 @@
 -- The walk along the reports held, from neighbour to neighbour. Assumes nothing.
-use Rattle.std.specs.Prelude.{ℕ, zero, suc, Bool, true, false, cond, List, [], ◌∷◌, map, length, get_or, Some, None, Option, ◌==◌, slice_index_or, slice_set}
+use Rattle.std.specs.Prelude.{ℕ, zero, suc, Bool, true, false, cond, List, [], ◌∷◌, map, length, Some, None, Option, ◌==◌, slice_index_or, slice_set}
 use Rattle.report.specs.Reports.{Report}
 use Rattle.train.specs.Line.{Way, forward, turned}
 use Rattle.train.specs.Truth.{Awake, reports, In}
@@ -41,7 +41,7 @@ abbrev pub walk : ℕ → List Report → List Bool → ℕ → ℕ → Option (
 walk zero held met l m = cond (m == 0) (ended met) None
 walk (suc n) held met l m =
     cond (m == 0) (ended met) (if_some (place_of m 0 held) (λ i. cond (slice_index_or met i true) None
-    (if_some (walk n held (slice_set met i true) (get_or held i blank).mac (next_from l (slice_index_or held i blank)))
+    (if_some (walk n held (slice_set met i true) (slice_index_or held i blank).mac (next_from l (slice_index_or held i blank)))
     (λ ss. Some (record { place = i; way = way_from l (slice_index_or held i blank) } ∷ ss)))))
 
 abbrev pub steps_of : List Report → Option (List Step)

@@ -1,6 +1,6 @@
 //! A report into a row of words.
 
-ghost use Rattle.std.specs.Prelude.{◌≡◌, ◌^◌, ◌<◌, ◌≤◌, true, ◌++◌, length, take, if◌then◌else◌, nat_eq};
+ghost use Rattle.std.specs.Prelude.{◌≡◌, ◌^◌, ◌<◌, ◌≤◌, true, ◌++◌, length, take, if◌then◌else◌, ◌==◌};
 ghost use Rattle.keyed.specs.Table.{written};
 ghost use Rattle.report.specs.Reports.{means, whole, is_neighbour, in_range};
 ghost use Rattle.report.specs.Refusals.{write_told};
@@ -41,7 +41,7 @@ fn uuid_words(uuid: Uuid) -> [u32; 5]
 
 /// The word of a mask, or 0 where the place holds none: the end word stands at the first.
 fn mask_word(mask: u8) -> u32
-    ensures { result ≡ (if nat_eq mask 0 then 0 else word_of 4 mask) }
+    ensures { result ≡ (if mask == 0 then 0 else word_of 4 mask) }
 {
     if mask == 0 {
         0
