@@ -1,5 +1,5 @@
 -- Node numbers and the places of nodes undo each other. Assumes nothing.
-use Rattle.std.proofs.Common.{◌≡◌, ℕ, ◌+◌, ◌-◌, ◌≤◌, min, max, true, false, cond, eqb, ◌⊎◌, List, [], ◌∷◌, map, length, take, Some, None, filter, Option, sym, refl, ap, ◌∙◌, subst, inl, inr, ⊎_elim, arith}
+use Rattle.std.proofs.Common.{◌≡◌, ℕ, ◌+◌, ◌≤◌, min, max, true, false, cond, eqb, ◌⊎◌, List, [], ◌∷◌, map, length, take, Some, None, filter, Option, sym, refl, ap, ◌∙◌, subst, inl, inr, ⊎_elim, arith}
 use Rattle.std.proofs.lemmas.Bool.{and_parts, and_from, eqb-true, eq-eqb, cond-true, cases_lt}
 use Rattle.train.specs.Line.{Way, forward, turned}
 use Rattle.train.specs.Truth.{In, here, there}

@@ -1,5 +1,5 @@
 -- From consists and nodes to what is answered. Assumes nothing.
-use Rattle.std.proofs.Common.{◌≡◌, ℕ, ◌+◌, ◌<◌, ◌≤◌, min, Bool, true, false, cond, not, ◌&&◌, eqb, leb, ◌⊎◌, List, [], ◌∷◌, ◌++◌, map, length, take, Some, None, Ok, Err, Option, Result, sym, refl, ap, ◌∙◌, subst, ap₂, inl, inr, arith}
+use Rattle.std.proofs.Common.{◌≡◌, ℕ, ◌+◌, ◌<◌, ◌≤◌, min, Bool, true, false, cond, not, ◌&&◌, eqb, leb, ◌⊎◌, List, [], ◌∷◌, ◌++◌, map, length, take, Some, None, Ok, Err, Option, Result, sym, refl, ap, ◌∙◌, ap₂, inl, inr, arith}
 use native.Mathlib.Nat.{min-eq_left, min-eq_right}
 use Rattle.std.proofs.lemmas.Bool.{cases_lt}
 use Rattle.std.proofs.lemmas.List.{take_all}
@@ -7,16 +7,16 @@ use Rattle.std.specs.Option.{option_map}
 use Rattle.report.specs.declared.Report as code
 use Rattle.report.specs.Reports.{Report}
 use Rattle.report.specs.Masks.{together}
-use Rattle.train.specs.Line.{masks, Line}
-use Rattle.train.specs.Rules.{networks, set_bits, node_count, network_count, bit_count}
-use Rattle.train.specs.Rows.{Met, met, reading, Meeting, meetings, Row, rows_met, numbered}
-use Rattle.train.specs.Agreement.{Outline, skeleton}
+use Rattle.train.specs.Line.{Line}
+use Rattle.train.specs.Rules.{networks, set_bits}
+use Rattle.train.specs.Rows.{Met, meetings, rows_met, numbered}
+use Rattle.train.specs.Agreement.{skeleton}
 use Rattle.train.proofs.Reading.{met_same}
 use Rattle.train.proofs.Totals.{total_same, as_many_masks}
 use Rattle.directory.specs.declared.directory.Directory.{Directory}
 use Rattle.directory.specs.Meaning.{serving}
 use Rattle.fitting.specs.Neighbours.{is_held, loose}
-use Rattle.fitting.specs.Walk.{stands, steps_of, if_some, Step, chain_of}
+use Rattle.fitting.specs.Walk.{stands, steps_of, if_some, Step}
 use Rattle.fitting.specs.Assemble.{assemble}
 use Rattle.fitting.specs.Answer.{mute, loosely, split, mixed, long, is_within, shown_rows, line_answer, chain_answer, firm_answer, answer}
 use Rattle.inauguration.specs.declared.refused.Refused.{Refused}

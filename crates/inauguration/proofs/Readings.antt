@@ -1,10 +1,10 @@
 -- Consists and nodes in the order of the reading. Assumes nothing.
-use Rattle.std.proofs.Common.{◌≡◌, ℕ, zero, suc, ◌+◌, ◌-◌, ◌<◌, ◌≤◌, Bool, true, false, cond, not, eqb, ltb, List, [], ◌∷◌, ◌++◌, map, reverse, length, get_or, take, drop, set, sym, refl, ap, ◌∙◌, subst, ap₂, append_assoc, append-nil, arith}
+use Rattle.std.proofs.Common.{◌≡◌, ℕ, zero, suc, ◌+◌, ◌-◌, ◌<◌, ◌≤◌, true, false, cond, ltb, List, [], ◌∷◌, ◌++◌, map, reverse, length, get_or, take, drop, set, sym, refl, ap, ◌∙◌, ap₂, append_assoc, append-nil, arith}
 use mathlib.Core.List.{reverse_aux, reverse-cons, map-append}
 use Rattle.std.proofs.lemmas.Bool.{cond-true, cond-false}
 use Rattle.std.proofs.lemmas.List.{length-map, length-reverse, take_all, take_more, length-set, length-take-le, get_or-take, take_more_set, at_drop_more, at_drop_all}
 use Rattle.report.specs.Reports.{whole}
-use Rattle.train.specs.Line.{Way, forward, turned, other, masks, Coupled, Line, turn, flip}
+use Rattle.train.specs.Line.{Way, forward, turned, other, masks, Line, turn, flip}
 use Rattle.train.specs.Rules.{node_count}
 use Rattle.train.specs.Rows.{left, reading, counted, Met, nodes_in, met_in, met}
 use Rattle.train.proofs.Members.{map_reverse}

@@ -1,8 +1,7 @@
 -- The sums that the limits bound, a consist at a time. Assumes nothing.
-use Rattle.std.proofs.Common.{◌≡◌, ℕ, ◌+◌, ◌*◌, ◌<◌, ◌≤◌, Bool, true, false, ◌&&◌, leb, List, [], ◌∷◌, length, get_or, drop, sym, refl, ap, ◌∙◌, ap₂, arith}
+use Rattle.std.proofs.Common.{◌≡◌, ℕ, ◌+◌, ◌*◌, ◌<◌, ◌≤◌, ◌&&◌, leb, List, length, get_or, drop, sym, ap, ◌∙◌, ap₂, arith}
 use lib.Count.{ones, ones-le}
-use Rattle.std.proofs.lemmas.List.{length-map, at_drop_more, at_drop_all}
-use Rattle.std.proofs.lemmas.Bool.{le-leb, lt-leb}
+use Rattle.std.proofs.lemmas.List.{at_drop_more, at_drop_all}
 use Rattle.report.specs.Masks.{together}
 use Rattle.train.specs.Line.{masks}
 use Rattle.train.specs.Rules.{networks, set_bits, node_count, network_count, bit_count}

@@ -1,5 +1,5 @@
 -- The consists of a chain, gathered in the order in which they are met. Assumes nothing.
-use Rattle.std.specs.Prelude.{◌≡◌, ℕ, ◌≤◌, List, map, length, take, Some, None, Option}
+use Rattle.std.specs.Prelude.{◌≡◌, ◌≤◌, List, map, length, take, Some, None, Option}
 use Rattle.std.specs.Option.{option_map}
 use Rattle.report.specs.declared.Report as code
 use Rattle.train.specs.Line.{Line}

@@ -1,5 +1,5 @@
 -- The steps of a walk as the code keeps them: places and ways in two arrays. Assumes nothing.
-use Rattle.std.specs.Prelude.{◌≡◌, ℕ, ◌<◌, ◌≤◌, List, [], ◌∷◌, length, take, Some, None, Option, slice_index}
+use Rattle.std.specs.Prelude.{◌≡◌, ℕ, ◌<◌, List, [], ◌∷◌, length, take, Some, None, Option, slice_index}
 use Rattle.directory.specs.declared.row.Way as code
 use Rattle.directory.specs.Meaning.{way_means}
 use Rattle.fitting.specs.Walk.{Step, if_some}

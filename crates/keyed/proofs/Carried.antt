@@ -1,5 +1,5 @@
 -- Records carried over to others whose keys compare in the same way, and the number of slots. Assumes nothing.
-use Rattle.std.proofs.Common.{◌≡◌, ℕ, zero, suc, ◌+◌, ◌<◌, ◌≤◌, Bool, true, false, cond, leb, List, [], ◌∷◌, ◌++◌, map, length, take, drop, set, Some, None, Option, Ordering, Less, Equal, Greater, sym, refl, ap, ◌∙◌, ap₂, arith}
+use Rattle.std.proofs.Common.{◌≡◌, ℕ, zero, suc, ◌≤◌, Bool, true, false, cond, leb, List, [], ◌∷◌, ◌++◌, map, length, take, drop, set, None, Ordering, Less, Equal, Greater, sym, refl, ap, ◌∙◌, ap₂, arith}
 use Rattle.std.specs.Option.{option_map}
 use Rattle.std.specs.List.{insert, remove as removed_at, slice_get}
 use Rattle.std.proofs.lemmas.List.{map-append, map-set, take-map, drop-map, length-map, length-append, length-drop, length-take, length-set}

@@ -1,4 +1,4 @@
-use Rattle.std.proofs.Common.{◌≡◌, ◌+◌, ◌-◌, ◌<◌, max, get_or, take, Some, None, sym, ap, ◌∙◌, arith}
+use Rattle.std.proofs.Common.{◌≡◌, ◌+◌, ◌<◌, max, get_or, take, Some, None, sym, ap, ◌∙◌, arith}
 use Rattle.report.specs.Reports.{whole}
 use Rattle.train.specs.Rows.{given}
 use Rattle.directory.specs.Meaning.{rows_mean}

@@ -1,4 +1,4 @@
-use Rattle.std.proofs.Common.{◌≡◌, take, sym, ap, ◌∙◌, subst}
+use Rattle.std.proofs.Common.{take, sym, ap, ◌∙◌, subst}
 use Rattle.fitting.specs.Neighbours.{IsLoose}
 use Rattle.fitting.specs.Answer.{answer}
 use Rattle.fitting.specs.Assemble.{assemble}

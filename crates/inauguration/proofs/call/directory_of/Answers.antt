@@ -1,4 +1,4 @@
-use Rattle.std.proofs.Common.{◌≡◌, map, length, take, ap, ◌∙◌, arith}
+use Rattle.std.proofs.Common.{length, take, ap, ◌∙◌, arith}
 use Rattle.train.specs.Rules.{node_count}
 use Rattle.train.specs.Rows.{met, rows_met}
 use Rattle.train.proofs.Totals.{total_reading}

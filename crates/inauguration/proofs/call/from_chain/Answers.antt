@@ -1,4 +1,4 @@
-use Rattle.std.proofs.Common.{◌≡◌, cond, Ok, Err, ap, ◌∙◌}
+use Rattle.std.proofs.Common.{cond, Ok, Err, ap, ◌∙◌}
 use Rattle.fitting.specs.Answer.{shown_rows, long}
 use Rattle.inauguration.specs.Gathered.{gathered_line}
 use Rattle.inauguration.proofs.Answers.{line_same}

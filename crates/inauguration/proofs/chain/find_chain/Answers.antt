@@ -1,4 +1,4 @@
-use Rattle.std.proofs.Common.{sym, ap, ◌∙◌, arith}
+use Rattle.std.proofs.Common.{sym, ◌∙◌, arith}
 use Rattle.std.proofs.lemmas.Bool.{eqb-true, eqb-false}
 use Rattle.inauguration.specs.Meaning.{all_mean}
 use Rattle.inauguration.proofs.Scans.{code_blank, get_or_means, length_means}

@@ -1,4 +1,4 @@
-use Rattle.std.proofs.Common.{◌≡◌, ◌+◌, ◌≤◌, length, sym, ap, ◌∙◌, subst, arith}
+use Rattle.std.proofs.Common.{◌+◌, length, sym, ap, subst, arith}
 use Rattle.keyed.specs.Table.{live}
 use Rattle.inauguration.specs.declared.gather.Consists.{Consists}
 use Rattle.inauguration.specs.Gathered.{chain_nodes}

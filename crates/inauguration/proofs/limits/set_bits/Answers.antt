@@ -1,5 +1,5 @@
-use Rattle.std.proofs.Common.{◌≡◌, ◌+◌, get_or, sym, ◌∙◌, arith}
-use lib.Count.{ones, ones-le}
+use Rattle.std.proofs.Common.{get_or, ◌∙◌, arith}
+use lib.Count.{ones-le}
 use Rattle.std.proofs.lemmas.List.{at_drop_more, at_drop_all}
 use Rattle.train.specs.Rules.{set_bits}
 use Rattle.train.proofs.SetBits.{networks_are_ones}

@@ -1,4 +1,4 @@
-use Rattle.std.proofs.Common.{sym, ap, ◌∙◌}
+use Rattle.std.proofs.Common.{sym, ◌∙◌}
 use Rattle.inauguration.proofs.Scans.{code_blank, not-true, not-false, loose_hit, loose_miss, loose_past}
 use Rattle.inauguration.specs.Meaning.{all_mean}
 use Rattle.inauguration.proofs.neighbours.loose.Goals as goal

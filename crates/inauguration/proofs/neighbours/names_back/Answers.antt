@@ -1,4 +1,4 @@
-use Rattle.std.proofs.Common.{sym, ◌∙◌}
+use Rattle.std.proofs.Common.{◌∙◌}
 use Rattle.inauguration.proofs.Scans.{backed_at}
 use Rattle.inauguration.proofs.neighbours.names_back.Goals as goal
 

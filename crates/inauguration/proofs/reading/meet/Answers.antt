@@ -1,7 +1,6 @@
-use Rattle.std.proofs.Common.{◌≡◌, ◌<◌, ◌≤◌, length, get_or, sym, refl, ap, ◌∙◌, arith}
+use Rattle.std.proofs.Common.{length, get_or, ap, ◌∙◌, arith}
 use Rattle.report.specs.Reports.{whole}
 use Rattle.directory.specs.Meaning.{way_means}
-use Rattle.inauguration.specs.Consists.{masks_of}
 use Rattle.inauguration.specs.Nodes.{in_order}
 use Rattle.inauguration.proofs.Readings.{meets_none, meets_more, meets_all}
 use Rattle.inauguration.proofs.reading.meet.Goals as goal

@@ -1,6 +1,5 @@
-use Rattle.std.proofs.Common.{arith}
 use Rattle.inauguration.proofs.Gathered.{no_consist}
-use Rattle.inauguration.proofs.Readings.{meeting_none, meeting_room, meeting_more, meeting_all}
+use Rattle.inauguration.proofs.Readings.{meeting_room, meeting_more, meeting_all}
 use Rattle.inauguration.proofs.reading.nodes_of.Goals as goal
 
 pub meet-reading-requires : goal.meet-reading-requires
