@@ -4,7 +4,8 @@
 usage: python3 tools/respell.py [--check] [FOLDER]
 
 Run it once, after the spelling of the toolchain has been turned. Names of the toolchain's library stay, and so do
-code, strings and comments. It prints names that would fall together, and then changes nothing.
+code, strings and comments; code spans of README.md and docs/ turn. With --check it changes nothing, and lists the
+names, and those that would fall together with others.
 """
 
 import os
@@ -51,7 +52,6 @@ def code_parts(path, text):
             yield line[cut:], False
         return
     at = 0
-    plain = re.compile(r'//[^\n]*|"(?:\\.|[^"\\])*"|b?\'(?:\\.|[^\'\\])\'')
     for m in CLAUSE.finditer(text):
         if m.start() < at:
             continue

@@ -1,5 +1,6 @@
 //! Worked trains: the directory that each gives, or how its reports are refused.
 
+use crate::tests::refused;
 use crate::{Refused, inaugurate};
 use directory::Directory;
 use report::{Mac, Report, Uuid};
@@ -24,14 +25,6 @@ fn told(mac: u64, sides: [u64; 2], uuid: u64, place: [u8; 2], masks: [u8; 2]) ->
 /// The report of the only node of a consist with one network.
 fn only(mac: u64, sides: [u64; 2], uuid: u64) -> Report {
     told(mac, sides, uuid, [1, 1], [1, 0])
-}
-
-/// The refusal, if there is one.
-fn refused(own: u64, held: &[Report]) -> Option<Refused> {
-    match inaugurate(Mac(own), held) {
-        Ok(_) => None,
-        Err(fault) => Some(fault),
-    }
 }
 
 /// Row `i` in the bytes of a directory ends with this low byte of the UUID and this word.

@@ -19,7 +19,7 @@ fn told(mac: u64, sides: [u64; 2], uuid: u64, position: u8, nodes: u8) -> Report
 }
 
 /// The refusal, if there is one.
-fn refused(own: u64, held: &[Report]) -> Option<Refused> {
+pub(crate) fn refused(own: u64, held: &[Report]) -> Option<Refused> {
     match inaugurate(Mac(own), held) {
         Ok(_) => None,
         Err(fault) => Some(fault),
