@@ -1,10 +1,9 @@
 -- Members of lists, and the first that passes a test. Assumes nothing.
-use Rattle.std.proofs.Common.{◌≡◌, ℕ, zero, suc, Bool, true, ◌⊎◌, List, [], ◌∷◌, ◌++◌, map, reverse, take, Some, None, filter, Option, sym, refl, ap, ◌∙◌, inl, inr, ⊎_elim, arith}
+use Rattle.std.proofs.Common.{◌≡◌, ℕ, zero, suc, Bool, true, ◌⊎◌, List, [], ◌∷◌, ◌++◌, map, reverse, take, Some, None, filter, Option, sym, refl, ap, ◌∙◌, inl, inr, ⊎_elim, arith, find, option_map}
 use mathlib.Core.List.{reverse_aux}
 use Rattle.std.specs.List.{AllByRecursion}
 use Rattle.std.proofs.lemmas.Bool.{cases_Bool, cond-true, cond-false}
 use Rattle.train.specs.Truth.{In, here, there}
-use Rattle.directory.specs.Asked.{first_where, carried}
 
 pub in_cases : {A : Type 0} (x y : A) (ys : List A) → In x (y ∷ ys) → (x ≡ y) ⊎ In x ys
 in_cases x y ys here = inl refl
@@ -31,30 +30,30 @@ in_take x (suc n) [] h = elim h [ ]
 in_take x (suc n) (z ∷ xs) here = here
 in_take x (suc n) (z ∷ xs) (there h) = there (in_take x n xs h)
 
-pub carried_some : {A B : Type 0} (f : A → B) (o : Option A) (y : B) → carried f o ≡ Some y → (x : A) × (o ≡ Some x) × (f x ≡ y)
+pub carried_some : {A B : Type 0} (f : A → B) (o : Option A) (y : B) → option_map f o ≡ Some y → (x : A) × (o ≡ Some x) × (f x ≡ y)
 carried_some f (Some x) y e = (x, refl, cc)
 carried_some f None y e = absurd (let z : ◌≡◌ {A = ℕ} 0 1 = cc in let g : ⊥ = omega arith in g)
 
 module _ {A : Type 0} (p : A → Bool) where
   -- what is found is there and passes
-  pub first_in : (xs : List A) (x : A) → first_where p xs ≡ Some x → In x xs × (p x ≡ true)
+  pub first_in : (xs : List A) (x : A) → find p xs ≡ Some x → In x xs × (p x ≡ true)
   first_in [] x e = absurd (let z : ◌≡◌ {A = ℕ} 0 1 = cc in let g : ⊥ = omega arith in g)
   first_in (y ∷ ys) x e =
       ⊎_elim
       (λ on.
-      let h = cond-true (p y) (Some y) (first_where p ys) on in
+      let h = cond-true (p y) (Some y) (find p ys) on in
       let is : x ≡ y = cc in
       rw is (here, on))
-      (λ off. let r = first_in ys x (sym (cond-false (p y) (Some y) (first_where p ys) off) ∙ e) in (there r.0, r.1))
+      (λ off. let r = first_in ys x (sym (cond-false (p y) (Some y) (find p ys) off) ∙ e) in (there r.0, r.1))
       (cases_Bool (p y))
 
   -- where something passes, something is found
-  pub first_some : (xs : List A) (x : A) → In x xs → p x ≡ true → (y : A) × (first_where p xs ≡ Some y)
+  pub first_some : (xs : List A) (x : A) → In x xs → p x ≡ true → (y : A) × (find p xs ≡ Some y)
   first_some [] x h on = elim h [ ]
-  first_some (z ∷ xs) x here on = (x, cond-true (p x) (Some x) (first_where p xs) on)
+  first_some (z ∷ xs) x here on = (x, cond-true (p x) (Some x) (find p xs) on)
   first_some (z ∷ xs) x (there h) on =
-      ⊎_elim (λ e. (z, cond-true (p z) (Some z) (first_where p xs) e))
-      (λ e. let r = first_some xs x h on in (r.0, cond-false (p z) (Some z) (first_where p xs) e ∙ r.1)) (cases_Bool (p z))
+      ⊎_elim (λ e. (z, cond-true (p z) (Some z) (find p xs) e))
+      (λ e. let r = first_some xs x h on in (r.0, cond-false (p z) (Some z) (find p xs) e ∙ r.1)) (cases_Bool (p z))
 
 in_aux : {A : Type 0} (x : A) (xs r : List A) → In x (reverse_aux xs r) → In x xs ⊎ In x r
 in_aux x [] r i = inr i

@@ -1,9 +1,9 @@
 -- Subnets and the networks of consists undo each other. Assumes nothing.
-use Rattle.std.proofs.Common.{◌≡◌, ℕ, ◌≤◌, max, eqb, List, [], ◌∷◌, ◌++◌, map, take, Some, None, Option, sym, refl, ap, ◌∙◌, ⊎_elim, arith}
+use Rattle.std.proofs.Common.{◌≡◌, ℕ, ◌≤◌, max, eqb, List, [], ◌∷◌, ◌++◌, map, take, Some, None, Option, sym, refl, ap, ◌∙◌, ⊎_elim, arith, find, option_map}
 use Rattle.std.proofs.lemmas.Bool.{and_parts, and_from, eqb-true, eq-eqb}
 use Rattle.train.specs.Truth.{In, here, there}
 use Rattle.train.specs.Rows.{Met, Meeting, meetings, Row, row, given, rows_met}
-use Rattle.directory.specs.Asked.{highest, first_where, carried}
+use Rattle.directory.specs.Asked.{highest}
 use Rattle.directory.specs.Lookups.{NetworksUndo}
 use Rattle.directory.proofs.Climbs.{highest_above}
 use Rattle.directory.proofs.Subnets.{or_next, is_for, Filled, filled_push, filled_none, filled_all}
@@ -25,7 +25,7 @@ pub record Giver (u c s : ℕ) (rs : List Row) : Type 0 where
 
 pub given_by : (u c s : ℕ) (rs : List Row) → given u c rs ≡ Some s → Giver u c s rs
 given_by u c s rs e =
-    let f = carried_some (λ (r : Row). r.subnet) (first_where (is_for u c) rs) s (given_first u c rs ∙ e) in
+    let f = carried_some (λ (r : Row). r.subnet) (find (is_for u c) rs) s (given_first u c rs ∙ e) in
     let i = first_in (is_for u c) rs f.0 f.1 in
     let p = and_parts (eqb f.0.uuid u) (eqb f.0.cn c) i.1 in
     record { giver = f.0; is_in = i.0; uuid = eqb-true f.0.uuid u p.0; cn = eqb-true f.0.cn c p.1; subnet = f.2 }
@@ -34,7 +34,7 @@ given_by u c s rs e =
 pub given_there : (u c : ℕ) (rs : List Row) (r : Row) → In r rs → r.uuid ≡ u → r.cn ≡ c → (s : ℕ) × (given u c rs ≡ Some s)
 given_there u c rs r i eu ec =
     let f = first_some (is_for u c) rs r i (and_from (eqb r.uuid u) (eqb r.cn c) (eq-eqb r.uuid u eu) (eq-eqb r.cn c ec)) in
-    (f.0.subnet, sym (given_first u c rs) ∙ ap (λ o. carried (λ (r : Row). r.subnet) o) f.1)
+    (f.0.subnet, sym (given_first u c rs) ∙ ap (λ o. option_map (λ (r : Row). r.subnet) o) f.1)
 
 in_highest : (t : ℕ) (r : Row) (rs : List Row) → In r rs → r.subnet ≤ highest t (map (λ r. r.subnet) rs)
 in_highest t r [] i = elim i [ ]
@@ -126,11 +126,11 @@ undo rs g = record {
       let f = first_some p rs w.giver w.is_in (eq-eqb w.giver.subnet s w.subnet) in
       let i = first_in p rs f.0 f.1 in
       let n = g.one_network f.0 w.giver i.0 w.is_in (eqb-true f.0.subnet s i.1 ∙ sym w.subnet) in
-      ap (λ o. carried (λ (r : Row). (r.uuid, r.cn)) o) f.1 ∙ (λ j. Some ((n.0 ∙ w.uuid) j, (n.1 ∙ w.cn) j));
+      ap (λ o. option_map (λ (r : Row). (r.uuid, r.cn)) o) f.1 ∙ (λ j. Some ((n.0 ∙ w.uuid) j, (n.1 ∙ w.cn) j));
   subnet_back =
       λ u c s e.
       let p = λ (r : Row). eqb r.subnet s in
-      let f = carried_some (λ (r : Row). (r.uuid, r.cn)) (first_where p rs) (u, c) e in
+      let f = carried_some (λ (r : Row). (r.uuid, r.cn)) (find p rs) (u, c) e in
       let i = first_in p rs f.0 f.1 in
       let w = given_there u c rs f.0 i.0 (ap (λ x. x.0) f.2) (ap (λ x. x.1) f.2) in
       let q = given_by u c w.0 rs w.1 in

@@ -1,12 +1,12 @@
 -- Node numbers and the places of nodes undo each other. Assumes nothing.
-use Rattle.std.proofs.Common.{◌≡◌, ℕ, ◌+◌, ◌≤◌, min, max, true, false, cond, eqb, ◌⊎◌, List, [], ◌∷◌, map, length, take, Some, None, filter, Option, sym, refl, ap, ◌∙◌, subst, inl, inr, ⊎_elim, arith}
+use Rattle.std.proofs.Common.{◌≡◌, ℕ, ◌+◌, ◌≤◌, min, max, true, false, cond, eqb, ◌⊎◌, List, [], ◌∷◌, map, length, take, Some, None, filter, Option, sym, refl, ap, ◌∙◌, subst, inl, inr, ⊎_elim, arith, find, option_map}
 use Rattle.std.proofs.lemmas.Bool.{and_parts, and_from, eqb-true, eq-eqb, cond-true, cases_lt}
 use Rattle.train.specs.Line.{Way, forward, turned}
 use Rattle.train.specs.Truth.{In, here, there}
 use Rattle.train.specs.Rules.{networks}
 use Rattle.train.specs.Rows.{Met, Meeting, meetings, Row, row, given, numbered, rows_met}
 use Rattle.directory.specs.Meaning.{meeting}
-use Rattle.directory.specs.Asked.{lowest, highest, nodes_of, position, position_in, is_at, first_where, carried, place_of}
+use Rattle.directory.specs.Asked.{lowest, highest, nodes_of, position, position_in, is_at, place_of}
 use Rattle.directory.specs.Lookups.{OneWay, NodesUndo}
 use Rattle.directory.proofs.Climbs.{highest_above}
 use Rattle.directory.proofs.Subnets.{numbered_some, numbered_none}
@@ -190,15 +190,15 @@ position_one rs r s i j eu ew e =
     (highest_ge r.node r.node ns ri) (highest_ge r.node s.node ns si) (e ∙ there)
 
 pub place_found :
-    (n u p : ℕ) (rs : List Row) (r : Row) → first_where (λ r. eqb r.node n) rs ≡ Some r → r.uuid ≡ u → position_in rs r ≡ p
+    (n u p : ℕ) (rs : List Row) (r : Row) → find (λ r. eqb r.node n) rs ≡ Some r → r.uuid ≡ u → position_in rs r ≡ p
     → place_of n rs ≡ Some (u, p)
-place_found n u p rs r e eu ep = ap (λ o. carried (λ (r : Row). (r.uuid, position_in rs r)) o) e ∙ (λ k. Some (eu k, ep k))
+place_found n u p rs r e eu ep = ap (λ o. option_map (λ (r : Row). (r.uuid, position_in rs r)) o) e ∙ (λ k. Some (eu k, ep k))
 
 undo : (rs : List Row) → Together rs → NodesUndo rs
 undo rs g = record {
   number_back =
       λ u p n e.
-      let f = carried_some (λ (r : Row). (r.uuid, position_in rs r)) (first_where (λ (r : Row). eqb r.node n) rs) (u, p) e in
+      let f = carried_some (λ (r : Row). (r.uuid, position_in rs r)) (find (λ (r : Row). eqb r.node n) rs) (u, p) e in
       let r = f.0 in
       let i = first_in (λ (r : Row). eqb r.node n) rs r f.1 in
       let eu : r.uuid ≡ u = ap (λ x. x.0) f.2 in
@@ -211,10 +211,10 @@ undo rs g = record {
       let su = eqb-true s.uuid u q.0 ∙ sym eu in
       let sp : position_in rs s ≡ position_in rs r = eqb-true (position_in rs s) p q.1 ∙ sym ep in
       let same : s.node ≡ r.node = position_one rs s r j.0 i.0 su (g.one_way s r j.0 i.0 su) sp in
-      ap (λ o. carried (λ (r : Row). r.node) o) h.1 ∙ ap (λ k. Some k) (same ∙ eqb-true r.node n i.1);
+      ap (λ o. option_map (λ (r : Row). r.node) o) h.1 ∙ ap (λ k. Some k) (same ∙ eqb-true r.node n i.1);
   place_back =
       λ u p n e.
-      let f = carried_some (λ (r : Row). r.node) (first_where (is_at rs u p) rs) n e in
+      let f = carried_some (λ (r : Row). r.node) (find (is_at rs u p) rs) n e in
       let r = f.0 in
       let i = first_in (is_at rs u p) rs r f.1 in
       let q = and_parts (eqb r.uuid u) (eqb (position_in rs r) p) i.1 in

@@ -1,30 +1,14 @@
 -- What a directory is asked, by its rows. Assumes nothing.
-use Rattle.std.specs.Prelude.{ℕ, zero, suc, ◌+◌, ◌-◌, min, max, Bool, cond, ◌&&◌, List, [], ◌∷◌, map, Some, None, filter, Option, ◌==◌}
+use Rattle.std.specs.Prelude.{ℕ, ◌+◌, ◌-◌, min, max, Bool, ◌&&◌, List, map, fold, filter, find, Option, option_map, ◌==◌}
 use Rattle.train.specs.Line.{Way, forward, turned}
 use Rattle.train.specs.Rows.{Row}
 
--- the first element that passes, if one does
-abbrev pub first_where : {A : Type 0} → (A → Bool) → List A → Option A
-first_where p [] = None
-first_where p (x ∷ xs) = cond (p x) (Some x) (first_where p xs)
-
-abbrev pub carried : {A B : Type 0} → (A → B) → Option A → Option B
-carried f (Some x) = Some (f x)
-carried f None = None
-
-abbrev pub element : {A : Type 0} → List A → ℕ → Option A
-element [] i = None
-element (x ∷ xs) zero = Some x
-element (x ∷ xs) (suc i) = element xs i
-
 -- the lowest and the highest of numbers and n
 abbrev pub lowest : ℕ → List ℕ → ℕ
-lowest n [] = n
-lowest n (x ∷ xs) = lowest (min n x) xs
+lowest n xs = fold min n xs
 
 abbrev pub highest : ℕ → List ℕ → ℕ
-highest n [] = n
-highest n (x ∷ xs) = highest (max n x) xs
+highest n xs = fold max n xs
 
 -- the node numbers of a consist
 abbrev pub nodes_of : ℕ → List Row → List ℕ
@@ -43,7 +27,7 @@ position_in rs r =
 
 -- the UUID and the position of the node with this number
 abbrev pub place_of : ℕ → List Row → Option (ℕ × ℕ)
-place_of n rs = carried (λ r. (r.uuid, position_in rs r)) (first_where (λ r. r.node == n) rs)
+place_of n rs = option_map (λ r. (r.uuid, position_in rs r)) (find (λ r. r.node == n) rs)
 
 -- a row of consist u whose node has position p
 abbrev pub is_at : List Row → ℕ → ℕ → Row → Bool
@@ -51,8 +35,8 @@ is_at rs u p r = r.uuid == u && position_in rs r == p
 
 -- the number of the node at position p of consist u
 abbrev pub number_of : ℕ → ℕ → List Row → Option ℕ
-number_of u p rs = carried (λ r. r.node) (first_where (is_at rs u p) rs)
+number_of u p rs = option_map (λ r. r.node) (find (is_at rs u p) rs)
 
 -- the UUID and the network of a subnet; `given` says the subnet of a consist's network
 abbrev pub network_of : ℕ → List Row → Option (ℕ × ℕ)
-network_of s rs = carried (λ r. (r.uuid, r.cn)) (first_where (λ r. r.subnet == s) rs)
+network_of s rs = option_map (λ r. (r.uuid, r.cn)) (find (λ r. r.subnet == s) rs)

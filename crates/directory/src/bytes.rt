@@ -8,6 +8,7 @@ ghost use Rattle.directory.specs.Meaning.{way_means, row_means, rows_mean, rows_
 ghost use Rattle.directory.specs.Writing.{write_told, write_answer, write_leaves};
 
 use crate::directory::Directory;
+use crate::limits::ROW_BYTES;
 use crate::row::{Row, Way};
 use counter::Counter;
 
@@ -15,14 +16,12 @@ use counter::Counter;
 #[derive(Clone, Copy, PartialEq, Eq, Debug)]
 pub struct Short;
 
-/// How many bytes a row has.
-const LENGTH: usize = 20;
+/// The direction, from 1, that the last byte of a row is.
+impl From<Way> for u8 {
+    ghost from_gives = { λ way n. n ≡ direction_of (way_means way) };
 
-impl Way {
-    fn direction(self) -> u8
-        ensures { result ≡ direction_of (way_means self) }
-    {
-        match self {
+    fn from(way: Way) -> u8 {
+        match way {
             Way::Forward => 1,
             Way::Turned => 2,
         }
@@ -43,17 +42,17 @@ fn uuid(high: u64, low: u64) -> [u8; 16]
 fn word(network: u8, subnet: u8, node: u8, way: Way) -> [u8; 4]
     ensures { result ≡ big_endian 4 (network * 2 ^ 24 + subnet * 2 ^ 16 + node * 2 ^ 8 + direction_of (way_means way)) }
 {
-    [network, subnet, node, way.direction()]
+    [network, subnet, node, u8::from(way)]
 }
 
 impl Row {
     /// The UUID and then the word.
-    fn bytes(&self) -> [u8; 20]
+    fn bytes(&self) -> [u8; ROW_BYTES]
         ensures { result ≡ row_bytes (row_means self.now) }
     {
-        let mut bytes = [0; 20];
+        let mut bytes = [0; ROW_BYTES];
         bytes[0..16].copy_from_slice(&uuid(self.uuid.high, self.uuid.low));
-        bytes[16..20].copy_from_slice(&word(self.network, self.subnet, self.node, self.way));
+        bytes[16..ROW_BYTES].copy_from_slice(&word(self.network, self.subnet, self.node, self.way));
         bytes
     }
 }
@@ -64,8 +63,8 @@ fn put(rows: &[Row], out: &mut [u8])
     ensures { out.new ≡ written (rows_bytes (rows_mean rows.now)) out.old }
 {
     for (i, row) in rows.iter().enumerate() {
-        let at = LENGTH * i;
-        out[at..at + LENGTH].copy_from_slice(&row.bytes());
+        let at = ROW_BYTES * i;
+        out[at..at + ROW_BYTES].copy_from_slice(&row.bytes());
     }
 }
 
@@ -81,7 +80,7 @@ fn count(rows: &[Row]) -> u32
 
 impl Directory {
     /// The counted rows.
-    pub(crate) fn rows(&self) -> &[Row]
+    pub fn rows(&self) -> &[Row]
         ensures rows { result.now ≡ take self.now.count self.now.rows }
         ensures many { length result.now ≡ length (rows_of self.now) }
     {
@@ -94,7 +93,7 @@ impl Directory {
         ensures buffer { out.new ≡ write_leaves (rows_of self.now) out.old }
     {
         let rows = self.rows();
-        if out.len() < LENGTH * rows.len() {
+        if out.len() < ROW_BYTES * rows.len() {
             return Err(Short);
         }
         put(rows, out);

@@ -9,7 +9,7 @@ ghost use Rattle.directory.specs.Meaning.{blank, row_means, rows_mean, rows_of, 
 ghost use Rattle.directory.specs.Lookups.{Lookups};
 
 use crate::directory::Directory;
-use crate::row::{BLANK, Draft, MetNode, ROWS, Row, same_uuid};
+use crate::row::{BLANK, Draft, MetNode, ROWS, Row};
 use report::Uuid;
 
 impl MetNode {
@@ -39,7 +39,7 @@ impl Row {
     pub(crate) fn is_of(&self, uuid: Uuid, network: u8) -> bool
         ensures { result ≡ ((row_means self.now).uuid == whole uuid) && (self.now.network == network) }
     {
-        same_uuid(self.uuid, uuid) && self.network == network
+        self.uuid.is_same(uuid) && self.network == network
     }
 }
 
@@ -80,6 +80,7 @@ fn fill(nodes: &[MetNode]) -> Draft
             if draft.count == ROWS {
                 break 'rows;
             }
+            // Counted by hand: as the project asks, the loop over the rows so far yields the subnet by its breaks.
             let mut k = 0;
             let subnet = loop {
                 if k == draft.count {

@@ -6,10 +6,15 @@ mod ask;
 mod bytes;
 mod directory;
 mod fill;
+pub mod limits;
+mod read;
 mod row;
+mod search;
+mod show;
 
 pub use bytes::Short;
 pub use directory::Directory;
+pub use read::UnknownDirection;
 pub use row::{BLANK, MetNode, Row, Way};
 
 #[cfg(test)]

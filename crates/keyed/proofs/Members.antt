@@ -1,11 +1,9 @@
 -- What is found is a record of the table, and how many records storing and removing leave. Assumes nothing.
-use Rattle.std.proofs.Common.{◌≡◌, ℕ, suc, ◌≤◌, false, leb, List, ◌∷◌, length, take, drop, set, Some, None, Ordering, arith, length-set}
+use Rattle.std.proofs.Common.{◌≡◌, ℕ, suc, ◌≤◌, false, leb, List, ◌∷◌, length, take, drop, set, Some, None, Ordering, arith, length-set, Ok, Err}
 use Rattle.std.specs.List.{insert, remove as removed_at, slice_get}
 use Rattle.std.proofs.lemmas.Bool.{leb-false}
 use Rattle.std.proofs.lemmas.List.{length-append, length-take, length-drop}
-use Rattle.keyed.specs.declared.find.Place.{Place}
-use Rattle.keyed.specs.declared.find.Place.TheVariants.{At, Before}
-use Rattle.keyed.specs.Find.{place_of, found}
+use Rattle.keyed.specs.Find.{Place, place_of, found}
 use Rattle.keyed.specs.Store.{stored, refused}
 use Rattle.keyed.specs.Remove.{removed}
 
@@ -13,9 +11,9 @@ module _ {R K : Type 0} (order : K → K → Ordering) (under : R → K) (xs : L
   pub found_place : (k : K) (r : R) → found order under k xs ≡ Some r → (i : ℕ) × (slice_get xs i ≡ Some r)
   found_place k r e = go (place_of order under k xs) e
     where
-      go : (p : Place) → elim p [ At i ↦ slice_get xs i | Before i ↦ None ] ≡ Some r → (i : ℕ) × (slice_get xs i ≡ Some r)
-      go (At i) e = (i, e)
-      go (Before i) e = let z : ◌≡◌ {A = ℕ} 0 1 = cc in let g : ⊥ = omega arith in absurd g
+      go : (p : Place) → elim p [ Ok i ↦ slice_get xs i | Err i ↦ None ] ≡ Some r → (i : ℕ) × (slice_get xs i ≡ Some r)
+      go (Ok i) e = (i, e)
+      go (Err i) e = let z : ◌≡◌ {A = ℕ} 0 1 = cc in let g : ⊥ = omega arith in absurd g
 
   inserted_few : (i : ℕ) (r : R) → length (insert xs i r) ≤ suc (length xs)
   inserted_few i r = let a = length-take i xs in let b = length-drop i xs in let c = length-append (take i xs) (r ∷ drop i xs) in omega arith
@@ -23,10 +21,10 @@ module _ {R K : Type 0} (order : K → K → Ordering) (under : R → K) (xs : L
   pub stored_few : (r : R) (places : ℕ) → length xs ≤ places → refused order under r places xs ≡ false → length (stored order under r xs) ≤ places
   stored_few r places few e = go (place_of order under (under r) xs) e
     where
-      go : (p : Place) → elim p [ At i ↦ false | Before i ↦ leb places (length xs) ] ≡ false
-          → length {A = R} (elim p [ At i ↦ set xs i r | Before i ↦ insert xs i r ]) ≤ places
-      go (At i) e = let s = length-set xs i r in omega arith
-      go (Before i) e = let s = inserted_few i r in let l = leb-false places (length xs) e in omega arith
+      go : (p : Place) → elim p [ Ok i ↦ false | Err i ↦ leb places (length xs) ] ≡ false
+          → length {A = R} (elim p [ Ok i ↦ set xs i r | Err i ↦ insert xs i r ]) ≤ places
+      go (Ok i) e = let s = length-set xs i r in omega arith
+      go (Err i) e = let s = inserted_few i r in let l = leb-false places (length xs) e in omega arith
 
   removed_few_at : (i : ℕ) → length (removed_at xs i) ≤ length xs
   removed_few_at i =
@@ -35,6 +33,6 @@ module _ {R K : Type 0} (order : K → K → Ordering) (under : R → K) (xs : L
   pub removed_few : (k : K) → length (removed order under k xs) ≤ length xs
   removed_few k = go (place_of order under k xs)
     where
-      go : (p : Place) → length {A = R} (elim p [ At i ↦ removed_at xs i | Before i ↦ xs ]) ≤ length xs
-      go (At i) = removed_few_at i
-      go (Before i) = omega arith
+      go : (p : Place) → length {A = R} (elim p [ Ok i ↦ removed_at xs i | Err i ↦ xs ]) ≤ length xs
+      go (Ok i) = removed_few_at i
+      go (Err i) = omega arith

@@ -1,10 +1,8 @@
 -- Records moved by one place within the slots. Assumes nothing.
-use Rattle.std.proofs.Common.{◌≡◌, ℕ, suc, ◌+◌, ◌-◌, ◌<◌, ◌≤◌, List, [], ◌∷◌, ◌++◌, length, get_or, take, drop, set, refl, ap, ◌∙◌, append_assoc, arith}
+use Rattle.std.proofs.Common.{◌≡◌, ℕ, suc, ◌+◌, ◌-◌, ◌<◌, ◌≤◌, List, [], ◌∷◌, ◌++◌, length, take, drop, set, refl, sym, ap, ◌∙◌, append_assoc, arith}
 use borrow.Rule.Slice.PartMut.{put_mid}
-use Rattle.std.specs.List.{between, insert, remove}
-use Rattle.std.proofs.lemmas.List.{append-nil, length-append, length-drop, length-take-le, length_push, take-append-drop, take-take, take_at, take-set-le, take_more_set, drop_at, drop-drop, drop-take, drop_more, drop-set-lt, drop-set-add, set_at, get_or-append_right, get_or-drop}
-use Rattle.std.proofs.lemmas.List.Edits.{between_none, between_more, length-between}
-use Rattle.std.proofs.lemmas.Slice.{between_is}
+use Rattle.std.specs.List.{copy_within, insert, remove}
+use Rattle.std.proofs.lemmas.List.{length-append, length-drop, length-take-le, length_push, take-take, take_at, take-set-le, take_more_set, drop_at, drop-drop, drop-take, drop-set-lt, drop-set-add}
 use Rattle.keyed.specs.Table.{written}
 
 -- r is written behind the n slots from `at` on, and then brought before them
@@ -61,49 +59,37 @@ module _ {R : Type 0} (slots : List R) (len at : ℕ) (r : R) (low : at ≤ len)
       let done = insert_at slots at n r room turned (turned_is slots at n r room part turned parted e) in
       cc
 
--- the slots once those from at + 1 to i have moved down by one
-abbrev pub shifted : {R : Type 0} → List R → ℕ → ℕ → List R
-shifted slots at i = (take at slots ++ between (at + 1) (i + 1) slots) ++ drop i slots
+-- the record at `at` is taken out, and the m behind it move down by one
+module _ {R : Type 0} (slots : List R) (at m : ℕ) (fits : suc at + m ≤ length slots) where
+  abbrev later : List R
+  later = take m (drop (suc at) slots)
 
-module _ {R : Type 0} (slots : List R) (at : ℕ) where
-  pub shifted_none : slots ≡ shifted slots at at
-  shifted_none =
-      let none = between_none slots (at + 1) in
-      let front = append-nil (take at slots) in
-      let whole = take-append-drop at slots in
+  removed_at : remove (take (suc at + m) slots) at ≡ take at slots ++ later
+  removed_at =
+      let le : at ≤ suc at + m = omega arith in
+      let front = take-take at (suc at + m) slots le in
+      let back = drop-take (suc at) m slots in
       cc
 
-  front_length : (i : ℕ) → at ≤ i → i < length slots → length (take at slots ++ between (at + 1) (i + 1) slots) ≡ i
-  front_length i low high =
-      let a = length-take-le at slots (omega arith) in
-      let b = length-between slots (at + 1) (i + 1) (omega arith) in
-      length-append (take at slots) (between (at + 1) (i + 1) slots) ∙ omega arith
+  left_length : length (take at slots ++ later) ≡ at + m
+  left_length =
+      let front = length-take-le at slots (omega arith) in
+      let back = length-take-le m (drop (suc at) slots) (simp length-drop (omega arith)) in
+      length-append (take at slots) later ∙ omega arith
 
-  -- what stands behind i has not moved yet
-  shifted_read : (i : ℕ) (x : R) → at ≤ i → i < length slots → get_or (shifted slots at i) (i + 1) x ≡ get_or slots (i + 1) x
-  shifted_read i x low high =
-      let behind = get_or-append_right (take at slots ++ between (at + 1) (i + 1) slots) (drop i slots) i (i + 1) x (front_length i low high) (omega arith) in
-      let one : i + 1 - i ≡ 1 = omega arith in
-      behind ∙ ap (λ n. get_or (drop i slots) n x) one ∙ get_or-drop i slots 1 x
-
-  pub shifted_more : (now : List R) (i : ℕ) (x : R) → at ≤ i → i + 1 < length slots → now ≡ shifted slots at i → x ≡ get_or now (i + 1) x → set now i x ≡ shifted slots at (i + 1)
-  shifted_more now i x low high is read =
-      let front : List R = take at slots ++ between (at + 1) (i + 1) slots in
-      let here : i < length slots = omega arith in
-      let value : x ≡ get_or slots (i + 1) x = read ∙ ap (λ xs. get_or xs (i + 1) x) is ∙ shifted_read i x low here in
-      let cut = drop_more slots i x here in
-      let more = between_more slots (at + 1) (i + 1) x (omega arith) high in
-      let after = set_at front (get_or slots i x) (drop (i + 1) slots) x i (front_length i low here) in
-      let outer = append_assoc front (x ∷ []) (drop (i + 1) slots) in
-      let inner = append_assoc (take at slots) (between (at + 1) (i + 1) slots) (x ∷ []) in
+  closed : copy_within slots (suc at) (suc at + m) at ≡ written (remove (take (suc at + m) slots) at) slots
+  closed =
+      let more : suc at + m - suc at ≡ m = omega arith in
+      let whole = append_assoc (take at slots) later (drop (at + m) slots) in
+      let left = removed_at in
+      let long = left_length in
       cc
 
-  pub shifted_all : (len i : ℕ) → i + 1 ≡ len → at ≤ i → len ≤ length slots → shifted slots at i ≡ written (remove (take len slots) at) slots
-  shifted_all len i last low high =
-      let here : i < length slots = omega arith in
-      let down : at + 1 ≡ suc at = omega arith in
-      let le : at ≤ len = omega arith in
-      let back = between_is slots (at + 1) len in
-      let front = take-take at len slots le in
-      let count = front_length i low here in
-      cc
+pub take_out_is : {R : Type 0} (slots : List R) (len at : ℕ) → at < len → len ≤ length slots → copy_within slots (at + 1) len at ≡ written (remove (take len slots) at) slots
+take_out_is slots len at low high =
+    let is : len ≡ suc at + (len - suc at) = omega arith in
+    let one : at + 1 ≡ suc at = omega arith in
+    ap (λ i. copy_within slots i len at) one
+    ∙ ap (λ n. copy_within slots (suc at) n at) is
+    ∙ closed slots at (len - suc at) (omega arith)
+    ∙ ap (λ n. written (remove (take n slots) at) slots) (sym is)

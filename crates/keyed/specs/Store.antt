@@ -2,18 +2,17 @@
 use Rattle.std.specs.Prelude.{ℕ, Bool, false, cond, List, length, Ok, Err, Result, nat_le, slice_set}
 use Rattle.std.specs.declared.cmp.Ordering.{Ordering}
 use Rattle.std.specs.List.{insert}
-use Rattle.keyed.specs.declared.find.Place.TheVariants.{At, Before}
 use Rattle.keyed.specs.declared.store.Full.{Full}
 use Rattle.keyed.specs.Find.{place_of}
 use Rattle.keyed.specs.Table.{written}
 
 -- the records with r in place of the one under its key, or else put in where it belongs
 abbrev pub stored : {R K : Type 0} → (K → K → Ordering) → (R → K) → R → List R → List R
-stored order under r xs = elim (place_of order under (under r) xs) [ At i ↦ slice_set xs i r | Before i ↦ insert xs i r ]
+stored order under r xs = elim (place_of order under (under r) xs) [ Ok i ↦ slice_set xs i r | Err i ↦ insert xs i r ]
 
 -- r's key is new, and every place is taken
 abbrev pub refused : {R K : Type 0} → (K → K → Ordering) → (R → K) → R → ℕ → List R → Bool
-refused order under r places xs = elim (place_of order under (under r) xs) [ At i ↦ false | Before i ↦ nat_le places (length xs) ]
+refused order under r places xs = elim (place_of order under (under r) xs) [ Ok i ↦ false | Err i ↦ nat_le places (length xs) ]
 
 -- the refusal
 abbrev pub full : Full

@@ -10,26 +10,20 @@ use crate::record::Record;
 use crate::table::Table;
 use std::cmp::Ordering;
 
-/// Where the record under a key stands, or before which place it belongs.
-#[derive(Clone, Copy)]
-pub(crate) enum Place {
-    At(usize),
-    Before(usize),
-}
-
-/// The first record whose key is not less decides.
-pub(crate) fn place_of<R: Record>(records: &[R], key: &R::Key) -> Place
+/// Where the record under a key stands, or else before which place it belongs: the first record whose key is not less
+/// decides. In a table that does not rise, as a caller may lend one, halving would find another place.
+pub(crate) fn place_of<R: Record>(records: &[R], key: &R::Key) -> Result<usize, usize>
     ensures place { result ≡ place_of R.Key.Key.order R.Record.under key.now records.now }
     ensures within { Within (length records.now) result }
 {
     for (i, item) in records.iter().enumerate() {
         match item.key().compare(key) {
             Ordering::Less => {}
-            Ordering::Equal => return Place::At(i),
-            Ordering::Greater => return Place::Before(i),
+            Ordering::Equal => return Ok(i),
+            Ordering::Greater => return Err(i),
         }
     }
-    Place::Before(records.len())
+    Err(records.len())
 }
 
 /// In any records, as those that `Table::records` gives.
@@ -37,8 +31,8 @@ pub fn find<R: Record + Copy>(records: &[R], key: &R::Key) -> Option<R>
     ensures { result ≡ found R.Key.Key.order R.Record.under key.now records.now }
 {
     match place_of(records, key) {
-        Place::At(at) => get(records, at),
-        Place::Before(_) => None,
+        Ok(at) => get(records, at),
+        Err(_) => None,
     }
 }
 

@@ -10,6 +10,7 @@ pub mod key;
 pub mod list;
 pub mod record;
 pub mod remove;
+mod show;
 pub mod store;
 pub mod table;
 

@@ -7,7 +7,7 @@ ghost use Rattle.keyed.specs.Table.{live};
 use crate::table::Table;
 
 /// The records in the first `len` slots, or in all the slots if they are fewer.
-pub(crate) fn records<R>(slots: &[R], len: usize) -> &[R]
+pub fn records<R>(slots: &[R], len: usize) -> &[R]
     ensures value { result.now ≡ take len slots.now }
     ensures len { length result.now ≡ min len (length slots.now) }
 {

@@ -7,7 +7,7 @@ ghost use Rattle.keyed.specs.Rising.{Rising};
 ghost use Rattle.keyed.specs.Find.{found};
 ghost use Rattle.keyed.specs.Remove.{removed, remove_leaves};
 
-use crate::find::{Place, place_of};
+use crate::find::place_of;
 use crate::list::{get, records};
 use crate::record::Record;
 use crate::table::Table;
@@ -18,11 +18,9 @@ fn take_out<R: Copy>(slots: &mut [R], len: usize, at: usize) -> usize
     ensures count { result ≡ length (removed_at (take len slots.old) at) }
     ensures slots { slots.new ≡ written (removed_at (take len slots.old) at) slots.old }
 {
-    let last = len.min(slots.len()) - 1;
-    for i in at..last {
-        slots[i] = slots[i + 1];
-    }
-    last
+    let len = len.min(slots.len());
+    slots.copy_within(at + 1..len, at);
+    len - 1
 }
 
 /// Answers the record that was under the key, and how many are left.
@@ -33,11 +31,11 @@ fn remove<R: Record + Copy>(slots: &mut [R], len: usize, key: &R::Key) -> (Optio
 {
     let live = records(slots, len);
     match place_of(live, key) {
-        Place::At(at) => {
+        Ok(at) => {
             let item = get(live, at);
             (item, take_out(slots, len, at))
         }
-        Place::Before(_) => (None, live.len()),
+        Err(_) => (None, live.len()),
     }
 }
 

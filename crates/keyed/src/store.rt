@@ -7,7 +7,7 @@ ghost use Rattle.keyed.specs.Rising.{Rising};
 ghost use Rattle.keyed.specs.Store.{store_answer, store_keeps, store_leaves};
 ghost use Rattle.keyed.specs.Map.{TableIsMap};
 
-use crate::find::{Place, place_of};
+use crate::find::place_of;
 use crate::list::records;
 use crate::record::Record;
 use crate::table::Table;
@@ -44,9 +44,9 @@ fn store<R: Record + Copy>(slots: &mut [R], len: usize, item: R) -> Result<usize
 {
     let live = records(slots, len);
     match place_of(live, &item.key()) {
-        Place::At(at) => Ok(replace(slots, len, at, item)),
-        Place::Before(at) if len < slots.len() => Ok(insert(slots, len, at, item)),
-        Place::Before(_) => Err(Full),
+        Ok(at) => Ok(replace(slots, len, at, item)),
+        Err(at) if len < slots.len() => Ok(insert(slots, len, at, item)),
+        Err(_) => Err(Full),
     }
 }
 

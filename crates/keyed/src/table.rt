@@ -3,7 +3,8 @@
 ghost use Rattle.std.specs.Prelude.{◌≡◌, take};
 ghost use Rattle.keyed.specs.Table.{live};
 
-/// The first `len` of the slots hold the records; the others are free.
+/// The first `len` of the slots hold the records; the others are free. The slots are memory of fixed size that is lent, so
+/// the count stands beside them, and each method hands both to a function.
 #[derive(Drop)]
 pub struct Table<'a, R> {
     pub(crate) slots: &'a mut [R],

@@ -1,5 +1,6 @@
 pub mod Bits
 pub mod Masks
+pub mod SetBits
 pub mod Steps
 pub mod Values
 pub mod Table

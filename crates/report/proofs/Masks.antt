@@ -1,12 +1,13 @@
 -- Masks: the code's tests of four places. Assumes nothing.
 use Rattle.std.proofs.Common.{◌≡◌, ℕ, zero, suc, ◌+◌, ◌-◌, ◌%◌, ◌^◌, ◌<◌, ◌≤◌, Bool, true, false, cond, not, eqb, ltb, List, [], ◌∷◌, map, length, get_or, take, drop, sym, refl, ap, ◌∙◌, subst, ⊎_elim, arith}
 use mathlib.Core.Bool.{beq}
-use lib.Bits.{bit_and, bit_or, or_zero_r}
-use Rattle.std.proofs.lemmas.Nat.{or_lt}
+use lib.Bits.{bit_and, bit_or, or_zero_l, or_zero_r}
+use Rattle.std.specs.Prelude.{fold}
+use Rattle.report.proofs.Bits.{or_assoc}
 use Rattle.std.proofs.lemmas.List.{get_or-take, get_or-drop, get_or_past, length-take, length-map}
 use Rattle.std.proofs.lemmas.Bool.{cases_lt, and_parts, and_from, eqb-true}
 use Rattle.std.proofs.lemmas.Bool.Decides.{nat_tests}
-use Rattle.report.specs.Masks.{is_mask, all_masks, together, unbroken}
+use Rattle.report.specs.Masks.{is_mask, all_masks, together, unbroken, set_bits}
 use Rattle.report.specs.Reports.{filled}
 use Rattle.report.specs.Reading.{nodes_in, masks_in, padded}
 
@@ -44,8 +45,12 @@ pub unbroken_carries : (m : ℕ) → m < 256 → eqb (bit_and m (m + 1)) 0 ≡ u
 unfolding carries unbroken below
 unbroken_carries m h = agreed (eqb (bit_and m (m + 1)) 0) (unbroken m) (at carries 256 m refl h)
 
-pub all_below : (a b c d : ℕ) → a < 256 → b < 256 → c < 256 → d < 256 → bit_or a (bit_or b (bit_or c d)) < 256
-all_below a b c d ha hb hc hd = or_lt 8 a (bit_or b (bit_or c d)) ha (or_lt 8 b (bit_or c d) hb (or_lt 8 c d hc hd))
+together_from : (a : ℕ) (ms : List ℕ) → fold (λ all m. bit_or all m) a ms ≡ bit_or a (together ms)
+together_from a [] = sym (or_zero_r a)
+together_from a (m ∷ ms) = together_from (bit_or a m) ms ∙ or_assoc a m (together ms)
+
+pub together_fold : (ms : List ℕ) → fold (λ all m. bit_or all m) 0 ms ≡ together ms
+together_fold ms = together_from 0 ms ∙ or_zero_l (together ms)
 
 -- the mask at place i, out of its word
 loads : (xs : List ℕ) (i : ℕ) → get_or (map (λ w. w % 2 ^ 8) xs) i 0 ≡ get_or xs i 0 % 2 ^ 8
@@ -94,11 +99,15 @@ padded_four (a ∷ b ∷ c ∷ []) e = absurd (let z : ⊥ = omega arith in z)
 padded_four (a ∷ b ∷ c ∷ d ∷ []) e = refl
 padded_four (a ∷ b ∷ c ∷ d ∷ m ∷ ms) e = absurd (let z : ⊥ = omega arith in z)
 
-pub together_four : (ms : List ℕ) → length ms ≡ 4 → together ms ≡ bit_or (get_or ms 0 0) (bit_or (get_or ms 1 0) (bit_or (get_or ms 2 0) (get_or ms 3 0)))
-together_four ms e =
-    ap together (sym (padded_four ms e)) ∙ ap (λ n. bit_or (get_or ms 0 0) (bit_or (get_or ms 1 0) (bit_or (get_or ms 2 0) n))) (or_zero_r (get_or ms 3 0))
-
 -- four places that hold masks and zeros
+pub set_bits_padded : (ms : List ℕ) → length ms ≤ 4 → set_bits (padded ms) ≡ set_bits ms
+set_bits_padded [] h = refl
+set_bits_padded (a ∷ []) h = refl
+set_bits_padded (a ∷ b ∷ []) h = refl
+set_bits_padded (a ∷ b ∷ c ∷ []) h = refl
+set_bits_padded (a ∷ b ∷ c ∷ d ∷ []) h = refl
+set_bits_padded (a ∷ b ∷ c ∷ d ∷ m ∷ ms) h = absurd (let z : ⊥ = omega arith in z)
+
 pub together_padded : (ms : List ℕ) → length ms ≤ 4 → together (padded ms) ≡ together ms
 together_padded [] h = refl
 together_padded (a ∷ []) h = refl

@@ -1,6 +1,15 @@
 -- The words of a report. Assumes nothing.
 use Rattle.std.specs.Prelude.{ℕ, ◌+◌, ◌*◌, ◌/◌, ◌%◌, ◌^◌, List, [], ◌∷◌, ◌++◌, map, length}
+use Rattle.report.specs.declared.layout.Kind.{Kind}
+use Rattle.report.specs.declared.layout.Kind.TheVariants.{Head, Mac, Uuid, Mask}
 use Rattle.report.specs.Reports.{Report}
+
+-- the number of a kind of words
+abbrev pub number : Kind → ℕ
+number Head = 1
+number Mac = 2
+number Uuid = 3
+number Mask = 4
 
 -- a word: its kind in the top 4 bits, and its load in the low 28
 abbrev pub word : ℕ → ℕ → ℕ

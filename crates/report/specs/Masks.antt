@@ -1,5 +1,5 @@
 -- The networks that the nodes of a consist serve. Assumes nothing.
-use Rattle.std.specs.Prelude.{ℕ, ◌+◌, ◌-◌, ◌/◌, ◌%◌, ◌^◌, Bool, true, not, ◌&&◌, ◌||◌, List, [], ◌∷◌, ◌==◌, bit_or, nat_le}
+use Rattle.std.specs.Prelude.{ℕ, ◌+◌, ◌-◌, ◌/◌, ◌%◌, ◌^◌, Bool, true, not, ◌&&◌, ◌||◌, List, [], ◌∷◌, ◌==◌, length, filter, bit_or, nat_le}
 
 -- a node with this mask serves network i: bit i - 1
 abbrev pub serves : ℕ → ℕ → Bool
@@ -30,3 +30,12 @@ unbroken mask = unbroken_at mask (1 ∷ 2 ∷ 3 ∷ 4 ∷ 5 ∷ 6 ∷ 7 ∷ [])
 -- the masks cover the networks from 1 to the highest
 abbrev pub gapless : List ℕ → Bool
 gapless ms = unbroken (together ms)
+
+-- the networks of a mask, rising
+abbrev pub networks : ℕ → List ℕ
+networks mask = filter (serves mask) (1 ∷ 2 ∷ 3 ∷ 4 ∷ 5 ∷ 6 ∷ 7 ∷ 8 ∷ [])
+
+-- the set bits of all masks
+abbrev pub set_bits : List ℕ → ℕ
+set_bits [] = 0
+set_bits (m ∷ ms) = length (networks m) + set_bits ms

@@ -12,7 +12,12 @@ impl Report {
         ensures answer { result ≡ is_crossed (means self.now) }
         ensures decides { Decides result (Crossed (means self.now)) }
     {
-        let (own, side1, side2) = (self.mac.0, self.side1.0, self.side2.0);
-        side1 == own || side2 == own || (side1 != 0 && side2 == side1)
+        let Report {
+            mac,
+            side1,
+            side2,
+            ..
+        } = *self;
+        side1 == mac || side2 == mac || (side1.0 != 0 && side2 == side1)
     }
 }

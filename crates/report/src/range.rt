@@ -1,20 +1,10 @@
 //! The ranges of a report's values.
 
-ghost use Rattle.std.specs.Prelude.{◌≡◌};
-ghost use Rattle.report.specs.Masks.{gapless};
+ghost use Rattle.std.specs.Prelude.{◌≡◌, ◌==◌, nat_lt};
 ghost use Rattle.report.specs.Reports.{whole, means, is_mac, is_neighbour, is_uuid, macs_fit, filled, in_range};
 
+use crate::mask::{is_gapless, together};
 use crate::{Mac, Report, Uuid};
-
-/// Whether masks serve the networks from 1 to the highest without a gap.
-pub(crate) fn is_gapless(masks: [u8; 4]) -> bool
-    ensures { result ≡ gapless masks }
-{
-    let [a, b, c, d] = masks;
-    let all = u16::from(a | (b | (c | d)));
-    // One more carries through the low bits that are set, and leaves any above them.
-    all & (all + 1) == 0
-}
 
 /// Whether the first `nodes` places hold a mask, and no other does.
 fn is_filled(masks: &[u8], nodes: usize) -> bool
@@ -29,7 +19,8 @@ fn is_filled(masks: &[u8], nodes: usize) -> bool
 }
 
 impl Mac {
-    pub(crate) fn is_valid(self) -> bool
+    /// Whether it is in the range of a MAC.
+    pub fn is_valid(self) -> bool
         ensures { result ≡ is_mac self.0 }
     {
         self.0 != 0 && self.0 < 1 << 48
@@ -44,11 +35,25 @@ impl Mac {
 }
 
 impl Uuid {
-    pub(crate) fn is_valid(self) -> bool
+    /// Whether it is in the range of a UUID.
+    pub fn is_valid(self) -> bool
         ensures { result ≡ is_uuid (whole self) }
     {
-        let Uuid { high, low } = self;
-        high != 0 || low != 0
+        self != Uuid::default()
+    }
+
+    /// Whether two are one number. Both by value: each half is then known to fit 64 bits.
+    pub fn is_same(self, other: Uuid) -> bool
+        ensures { result ≡ (whole self == whole other) }
+    {
+        self == other
+    }
+
+    /// Whether it is the smaller number.
+    pub fn is_less(self, other: Uuid) -> bool
+        ensures { result ≡ nat_lt (whole self) (whole other) }
+    {
+        self < other
     }
 }
 
@@ -71,6 +76,6 @@ impl Report {
             && self.uuid.is_valid()
             && 1 <= self.position
             && self.position <= nodes
-            && is_gapless(self.masks)
+            && is_gapless(together(&self.masks))
     }
 }

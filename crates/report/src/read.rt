@@ -1,21 +1,23 @@
 //! A report out of a row of words.
 
 ghost use Rattle.std.specs.Prelude.{◌≡◌, ◌+◌, ◌%◌, ◌^◌, ◌<◌, ◌≤◌, true, length, IfOk, IfErr, Some, None, slice_index};
+ghost use Rattle.report.specs.Layout.{number};
 ghost use Rattle.report.specs.Reports.{whole, means, in_range};
 ghost use Rattle.report.specs.Refusals.{read_told};
 ghost use Rattle.report.specs.Reading.{nodes_in, position_in, mac_in, uuid_in, masks_in, padded, of, head, mask_word, end_word, test_at, asked, first_wrong, report_in, read};
 ghost use Rattle.report.specs.Lossless.{Lossless};
 
-use crate::layout::{MASKS, OWN, SIDE1, SIDE2, UUID};
-use crate::range::is_gapless;
+use crate::layout::{Kind, MASKS, OWN, SIDE1, SIDE2, UUID};
+use crate::mask::{is_gapless, together};
 use crate::{Mac, Report, Uuid, WordFault};
+use std::array;
 
 /// The low bits of the word at a place, or 0 past the row.
 fn low_bits(words: &[u32], place: usize, bits: u32) -> u64
     requires { bits ≤ 32 }
     ensures { result ≡ slice_index words.now place % 2 ^ bits }
 {
-    let word = if place < words.len() { words[place] } else { 0 };
+    let word = words.get(place).copied().unwrap_or(0);
     u64::from(word) & ((1 << bits) - 1)
 }
 
@@ -66,20 +68,15 @@ fn mask_in(words: &[u32], i: usize) -> u8
 fn masks_in(words: &[u32]) -> [u8; 4]
     ensures { result ≡ padded (masks_in words.now) }
 {
-    [
-        mask_in(words, 0),
-        mask_in(words, 1),
-        mask_in(words, 2),
-        mask_in(words, 3),
-    ]
+    array::from_fn(|i| mask_in(words, i))
 }
 
 /// Whether a word has this kind, and a load of so many bits.
-fn is_of(word: u32, kind: u32, bits: u32) -> bool
+fn is_of(word: u32, kind: Kind, bits: u32) -> bool
     requires { bits ≤ 28 }
-    ensures { result ≡ of kind bits word }
+    ensures { result ≡ of (number kind) bits word }
 {
-    word >> 28 == kind && word & 0xFFF_FFFF < 1 << bits
+    word >> 28 == kind.number() && word & 0xFFF_FFFF < 1 << bits
 }
 
 /// Whether a word gives 1 to 4 nodes, and one of them as the node's position.
@@ -88,21 +85,21 @@ fn is_head(word: u32) -> bool
 {
     let nodes = word % 16;
     let position = word / 16 % 16;
-    is_of(word, 1, 8) && nodes <= 4 && 1 <= position && position <= nodes
+    is_of(word, Kind::Head, 8) && nodes <= 4 && 1 <= position && position <= nodes
 }
 
 /// Whether a word gives a mask.
 fn is_mask_word(word: u32) -> bool
     ensures { result ≡ mask_word word }
 {
-    is_of(word, 4, 8) && word % 256 != 0
+    is_of(word, Kind::Mask, 8) && word % 256 != 0
 }
 
 /// Whether a word ends the row, and the masks before it leave no gap.
 fn is_end_word(words: &[u32], word: u32) -> bool
     ensures { result ≡ end_word words.now word }
 {
-    word == 0 && is_gapless(masks_in(words))
+    word == 0 && is_gapless(together(&masks_in(words)))
 }
 
 /// Whether a word before the masks is what the layout asks at its place.
@@ -112,11 +109,11 @@ fn is_right_before(words: &[u32], place: usize, word: u32) -> bool
 {
     match place {
         0 => is_head(word),
-        1 | 3 | 4 | 5 | 6 => is_of(word, 2, 24),
-        2 => is_of(word, 2, 24) && mac_in(words, OWN).is_valid(),
-        7 => is_of(word, 3, 16),
-        8 | 9 | 10 => is_of(word, 3, 28),
-        _ => is_of(word, 3, 28) && uuid_in(words).is_valid(),
+        1 | 3 | 4 | 5 | 6 => is_of(word, Kind::Mac, 24),
+        2 => is_of(word, Kind::Mac, 24) && mac_in(words, OWN).is_valid(),
+        7 => is_of(word, Kind::Uuid, 16),
+        8 | 9 | 10 => is_of(word, Kind::Uuid, 28),
+        _ => is_of(word, Kind::Uuid, 28) && uuid_in(words).is_valid(),
     }
 }
 

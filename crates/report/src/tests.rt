@@ -58,10 +58,7 @@ const WRONG: [(usize, u32, usize); 24] = [
 ];
 
 fn refused_at(words: &[u32]) -> Option<usize> {
-    match Report::read(words) {
-        Ok(_) => None,
-        Err(fault) => Some(fault.place()),
-    }
+    Report::read(words).err().map(|fault| fault.place())
 }
 
 #[test]

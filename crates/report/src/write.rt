@@ -4,26 +4,29 @@ ghost use Rattle.std.specs.Prelude.{◌≡◌, ◌^◌, ◌<◌, ◌≤◌, true
 ghost use Rattle.keyed.specs.Table.{written};
 ghost use Rattle.report.specs.Reports.{means, whole, is_neighbour, in_range};
 ghost use Rattle.report.specs.Refusals.{write_told};
-ghost use Rattle.report.specs.Layout.{word as word_of, mac_words, uuid_words, words};
+ghost use Rattle.report.specs.Layout.{number, word as word_of, mac_words, uuid_words, words};
 ghost use Rattle.report.specs.Writing.{write_answer, write_leaves};
 
-use crate::layout::MASKS;
+use crate::layout::{Kind, MASKS};
 use crate::{Mac, Report, Uuid, WriteFault};
 
 const LOAD: u64 = 0xFFF_FFFF;
 
-fn word(kind: u32, load: u64) -> u32
-    requires { (kind < 16) × (load < 2 ^ 28) }
-    ensures { result ≡ word_of kind load }
+fn word(kind: Kind, load: u64) -> u32
+    requires { load < 2 ^ 28 }
+    ensures { result ≡ word_of (number kind) load }
 {
-    kind << 28 | load as u32
+    kind.number() << 28 | load as u32
 }
 
 fn mac_words(mac: Mac) -> [u32; 2]
     requires { is_neighbour mac.0 ≡ true }
     ensures { result ≡ mac_words mac.0 }
 {
-    [word(2, mac.0 >> 24), word(2, mac.0 & 0xFF_FFFF)]
+    [
+        word(Kind::Mac, mac.0 >> 24),
+        word(Kind::Mac, mac.0 & 0xFF_FFFF),
+    ]
 }
 
 fn uuid_words(uuid: Uuid) -> [u32; 5]
@@ -31,11 +34,11 @@ fn uuid_words(uuid: Uuid) -> [u32; 5]
 {
     let Uuid { high, low } = uuid;
     [
-        word(3, high >> 48),
-        word(3, high >> 20 & LOAD),
-        word(3, (high & 0xF_FFFF) << 8 | low >> 56),
-        word(3, low >> 28 & LOAD),
-        word(3, low & LOAD),
+        word(Kind::Uuid, high >> 48),
+        word(Kind::Uuid, high >> 20 & LOAD),
+        word(Kind::Uuid, (high & 0xF_FFFF) << 8 | low >> 56),
+        word(Kind::Uuid, low >> 28 & LOAD),
+        word(Kind::Uuid, low & LOAD),
     ]
 }
 
@@ -46,16 +49,16 @@ fn mask_word(mask: u8) -> u32
     if mask == 0 {
         0
     } else {
-        word(4, u64::from(mask))
+        word(Kind::Mask, u64::from(mask))
     }
 }
 
-/// Writes the first words at the front of a buffer; what lies behind stays.
-fn put(words: &[u32], count: usize, out: &mut [u32])
-    requires { (count ≤ length words.now) × (count ≤ length out.old) }
-    ensures { out.new ≡ written (take count words.now) out.old }
+/// Writes words at the front of a buffer; what lies behind stays.
+fn put(words: &[u32], out: &mut [u32])
+    requires { length words.now ≤ length out.old }
+    ensures { out.new ≡ written words.now out.old }
 {
-    out[0..count].copy_from_slice(&words[0..count]);
+    out[..words.len()].copy_from_slice(words);
 }
 
 impl Report {
@@ -68,12 +71,16 @@ impl Report {
         MASKS + usize::from(self.nodes) + 1
     }
 
-    /// Its words, and zeros behind them.
+    /// Its words, and zeros behind them: the words before the masks have fixed places, and behind them come the masks and the
+    /// end. Pushed one by one to a list that counts them, they would be no plainer than in their places.
     fn words(&self) -> [u32; 17]
         requires { in_range self.now ≡ true }
         ensures { take (length (words (means self.now))) result ≡ words (means self.now) }
     {
-        let head = word(1, u64::from(self.position) * 16 + u64::from(self.nodes));
+        let head = word(
+            Kind::Head,
+            u64::from(self.position) * 16 + u64::from(self.nodes),
+        );
         let [own_high, own_low] = mac_words(self.mac);
         let [side1_high, side1_low] = mac_words(self.side1);
         let [side2_high, side2_low] = mac_words(self.side2);
@@ -113,7 +120,7 @@ impl Report {
             return Err(WriteFault::Short);
         }
         let words = self.words();
-        put(&words, count, out);
+        put(&words[..count], out);
         Ok(count)
     }
 }

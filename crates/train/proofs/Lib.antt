@@ -8,7 +8,6 @@ pub mod Reading
 pub mod Totals
 pub mod Agreed
 pub mod Networks
-pub mod SetBits
 pub mod Climbing
 pub mod Meetings
 pub mod Subnets

@@ -1,13 +1,10 @@
 -- The rules on lines, and the three limits apart. Assumes nothing.
-use Rattle.std.specs.Prelude.{◌≡◌, ℕ, ◌+◌, ◌^◌, ◌<◌, ◌≤◌, true, List, [], ◌∷◌, map, length, filter, ◌≢◌}
+use Rattle.std.specs.Prelude.{◌≡◌, ℕ, ◌+◌, ◌^◌, ◌<◌, ◌≤◌, true, List, [], ◌∷◌, map, length, ◌≢◌}
 use Rattle.std.specs.List.{AllByRecursion}
-use Rattle.report.specs.Masks.{serves, together, gapless}
+use Rattle.report.specs.Masks.{together, gapless}
+pub use Rattle.report.specs.Masks.{networks, set_bits}
 use Rattle.train.specs.Line.{Consist, masks, Line}
 use Rattle.train.specs.Truth.{Awake, awake_of, awake}
-
--- the networks of a mask, rising
-abbrev pub networks : ℕ → List ℕ
-networks mask = filter (serves mask) (1 ∷ 2 ∷ 3 ∷ 4 ∷ 5 ∷ 6 ∷ 7 ∷ 8 ∷ [])
 
 -- the networks of a consist: those that one of its nodes serves
 abbrev pub consist_networks : Consist → List ℕ
@@ -50,11 +47,6 @@ pub record IsLine (l : Line) : Type 0 where
 abbrev pub total : (Consist → ℕ) → Line → ℕ
 total f [] = 0
 total f (s ∷ l) = f s.consist + total f l
-
--- the set bits of all masks
-abbrev pub set_bits : List ℕ → ℕ
-set_bits [] = 0
-set_bits (m ∷ ms) = length (networks m) + set_bits ms
 
 -- the nodes of a line, awake or asleep
 abbrev pub node_count : Line → ℕ

@@ -1,29 +1,14 @@
-use Rattle.std.proofs.Common.{◌<◌, length, refl, arith}
-use Rattle.std.proofs.lemmas.Bool.{false≢true}
-use Rattle.directory.proofs.Searches.{same_length, same_at, same_more, same_all}
+use Rattle.std.proofs.Common.{◌≡◌, length, sym, ◌∙◌, rules, tests}
+use Rattle.std.proofs.lemmas.List.{length-map}
+use Rattle.std.proofs.lemmas.Iterator.{YieldsList-from_zip, same_from_all}
+use Rattle.directory.specs.Meaning.{row_means, rows_mean}
+use Rattle.directory.proofs.Searches.{YieldsList-from_rows}
 use Rattle.directory.proofs.ask.same_rows.Goals as goal
 
 pub returns-then-rows-others : goal.returns-then-rows-others
 returns-then-rows-others c =
-    (λ z. absurd (false≢true z), λ e. absurd (c.if-rows-others.true (same_length c.args.rows.now c.args.others.now e)))
-
-pub returns-then-not-is_same : goal.returns-then-not-is_same
-returns-then-not-is_same c =
     let rows = c.args.rows.now in
     let others = c.args.others.now in
-    let i = c.loop-i.i in
-    let there : i < length others = omega (arith, c.if-rows-others.false) in
-    (λ z. absurd (false≢true z), λ e. c.if-not-is_same.ensures.1 (same_at rows others i c.loop-i-test.true there e))
-
-pub loop-i-preserved : goal.loop-i-preserved
-loop-i-preserved c =
-    let rows = c.args.rows.now in
-    let others = c.args.others.now in
-    let i = c.loop-i.i in
-    let there : i < length others = omega (arith, c.if-rows-others.false) in
-    same_more rows others i c.loop-i-test.true there c.loop-i.invariant (c.is_same.ensures.0 c.if-not-is_same.false)
-
-pub returns : goal.returns
-returns c =
-    let all = same_all c.args.rows.now c.args.others.now c.loop-i.i (omega arith) (omega (arith, c.if-rows-others.false)) c.loop-i.invariant in
-    (λ _. all, λ _. refl)
+    let long : length (rows_mean rows) ≡ length (rows_mean others) = length-map rows row_means ∙ search rules ∙ sym (length-map others row_means) in
+    same_from_all c.all.new.self _ _ _ _ c.all.ensures.ran (YieldsList-from_zip (YieldsList-from_rows rows cc) (YieldsList-from_rows others cc)) long
+    (λ x q k. search (rules, tests)) (λ x q k. search (rules, tests))

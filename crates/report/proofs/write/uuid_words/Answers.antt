@@ -10,7 +10,7 @@ pub word-requires-3 : goal.word-requires-3
 word-requires-3 c =
     let u = c.args.uuid in
     let m = and_mask u.high 20 in
-    (omega arith, omega (arith, two_parts (bit_and u.high 1048575) (u.low / 72057594037927936) 8 (omega arith) (omega arith)))
+    omega (arith, two_parts (bit_and u.high 1048575) (u.low / 72057594037927936) 8 (omega arith) (omega arith))
 
 pub returns : goal.returns
 returns c =
