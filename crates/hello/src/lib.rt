@@ -25,13 +25,13 @@ pub struct ReadHello {
 
 /// Hands out the place that a refusal names, if it names one, and gives its number.
 fn refuse(refusal: Refusal, place: &mut usize) -> u32
-    ensures number { result ≡ refusal.number }
+    ensures number { result ≡ (refusal_of refusal).0 }
     ensures place { place.new ≡ place_named (refusal_of refusal) place.old }
 {
-    if let Some(named) = refusal.place {
+    if let Some(named) = refusal.place() {
         *place = named;
     }
-    refusal.number
+    refusal.number()
 }
 
 /// Reads a frame without its CRC. A refusal leaves `hello` as it was, and only a refusal that names a place writes `place`.
@@ -41,13 +41,14 @@ pub fn hello_read(frame: &[u8], hello: &mut ReadHello, place: &mut usize) -> u32
     ensures place { place.new ≡ place_left (read frame.now) place.old }
 {
     match HelloFrame::read(frame) {
-        Ok(read) => {
-            let HelloFrame {
+        Ok(
+            HelloFrame {
                 hello: found,
                 vendor_at,
                 uuid_at,
                 ..
-            } = read;
+            },
+        ) => {
             *hello = ReadHello {
                 fields: found.fields,
                 vendor_at,
@@ -55,7 +56,7 @@ pub fn hello_read(frame: &[u8], hello: &mut ReadHello, place: &mut usize) -> u32
             };
             0
         }
-        Err(fault) => refuse(fault.refusal(), place),
+        Err(fault) => refuse(Refusal::from(fault), place),
     }
 }
 
@@ -80,7 +81,7 @@ pub fn hello_write<'a>(
     };
     match write(&hello, seconds, buffer, at) {
         Ok(_) => 0,
-        Err(fault) => refuse(fault.refusal(), place),
+        Err(fault) => refuse(Refusal::from(fault), place),
     }
 }
 

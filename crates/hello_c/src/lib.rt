@@ -1,4 +1,5 @@
 //! The HELLO reader and writer of `hello`, exported to C under the same names.
+//! Each function stands in both crates, since a crate is a library, with tests, or a static library.
 
 #![tactic(auto)]
 

@@ -1,5 +1,5 @@
 -- A frame is read exactly where it is a HELLO frame. Assumes nothing.
-use Rattle.std.proofs.Common.{◌≡◌, ℕ, ◌+◌, ◌<◌, ◌≤◌, Bool, true, false, cond, ◌&&◌, eqb, leb, ◌⊎◌, List, [], ◌∷◌, ◌++◌, length, take, drop, Some, None, Ok, Err, Option, Result, sym, refl, ap, ◌∙◌, subst, inl, inr, ⊎_elim, arith}
+use Rattle.std.proofs.Common.{◌≡◌, ℕ, ◌+◌, ◌<◌, ◌≤◌, Bool, true, false, cond, ◌&&◌, eqb, leb, ◌⊎◌, List, [], ◌∷◌, ◌++◌, length, take, drop, Some, None, IfOk, Ok, Err, Option, Result, sym, refl, ap, ◌∙◌, subst, inl, inr, ⊎_elim, arith}
 use Rattle.std.proofs.lemmas.Slice.Eq.{bytes_eq-Decides}
 use Rattle.std.proofs.lemmas.List.{append_assoc, take-append-drop, take_at, drop_at, drop-drop, length-append, length-drop, length-take-le}
 use Rattle.std.proofs.lemmas.Bool.{and_from, and_parts, eqb-true, eq-eqb, leb-true, le-leb}
@@ -339,12 +339,13 @@ tlvs_of q bs so =
     }
 
 -- The contents of the HELLO found are within the frame.
-pub found_within : (found : Option ℕ) (bs : List ℕ) → walk 0 18 0 None bs ≡ Ok found → Within (18 + length bs) found
-found_within None bs so = tt
-found_within (Some p) bs so =
-    let t = tlvs_of p bs so in
+pub found_within : (frame : List ℕ) (r : Result (Option ℕ) TlvFault) → 18 ≤ length frame → walk 0 18 0 None (drop 18 frame) ≡ r → IfOk r (Within (length frame))
+found_within frame (Err e) long so = tt
+found_within frame (Ok None) long so = tt
+found_within frame (Ok (Some p)) long so =
+    let t = tlvs_of p (drop 18 frame) so in
     let source : List ℕ = 0 ∷ 0 ∷ 0 ∷ 0 ∷ 0 ∷ 0 ∷ [] in
-    omega (arith, ap length t.is, t.place, fits_there source t.chassis t.port t.time t.before t.hello t.after t.ignored refl t.one)
+    omega (arith, length-drop 18 frame, ap length t.is, t.place, fits_there source t.chassis t.port t.time t.before t.hello t.after t.ignored refl t.one)
 
 module _ (bs : List ℕ) (a : Answer) where
   accepts_only : read bs ≡ Ok a → IsHelloFrame bs a

@@ -1,34 +1,18 @@
 -- The walk over whole TLVs: how it goes on at each, and which TLVs it has passed where it ends well. Assumes nothing.
-use Rattle.std.proofs.Common.{◌≡◌, ℕ, zero, suc, ◌+◌, ◌<◌, ◌≤◌, Bool, true, false, cond, not, ◌&&◌, eqb, ltb, ◌⊎◌, List, [], ◌∷◌, ◌++◌, length, take, drop, Some, None, Ok, Err, Option, Result, sym, refl, ap, ◌∙◌, inl, inr, ⊎_elim, add-one, arith}
+use Rattle.std.proofs.Common.{◌≡◌, ℕ, zero, suc, ◌+◌, ◌<◌, ◌≤◌, Bool, true, false, cond, not, ◌&&◌, eqb, ◌⊎◌, List, [], ◌∷◌, ◌++◌, length, take, drop, Some, None, Ok, Err, Option, Result, sym, refl, ap, ◌∙◌, inl, inr, ⊎_elim, add-one, arith}
 use Rattle.std.proofs.lemmas.List.{append_assoc, take-append-drop, take_at, drop_at, length-append, length-take-le, nil_from_length}
-use Rattle.std.proofs.lemmas.Bool.{and_parts, cases_lt, cases_Bool, le-ltb, lt-ltb, eq-eqb, ne_eqb, eqb-true, eqb-false}
+use Rattle.std.proofs.lemmas.Bool.{and_parts, cases_lt, cases_Bool, le-ltb, lt-ltb, ne_eqb, eqb-true, eqb-false}
 use Rattle.hello_read.specs.declared.fault.TlvFault.{TlvFault}
 use Rattle.hello_read.specs.declared.fault.TlvFault.TheVariants.{Order, Past, FilledEnd, Length, Second, NoEnd}
-use Rattle.hello_read.specs.declared.tlv.Tlv as code
-use Rattle.hello_read.specs.declared.tlv.Tlv.TheVariants.{End, Filled}
 use Rattle.hello_read.specs.Layout.{organization}
-use Rattle.hello_read.specs.Tlvs.{kind, size, starts, end, specific, tlv_at, noted, walk}
+use Rattle.hello_read.specs.Tlvs.{End, Filled, kind, size, starts, tlv_at, noted, walk}
 use Rattle.hello_read.specs.Frames.{Tlv, tlv_bytes, tlvs_bytes, Whole, is_hello, Typed, HelloTlv, Other}
-use Rattle.hello_read.proofs.Turns.{Turn, turned}
-
-abbrev Found : Type 0
-Found = Result (Option ℕ) TlvFault
-
-no_fault : {X : Type 0} (g : Option ℕ) (e : TlvFault) → ◌≡◌ {A = Found} (Err e) (Ok g) → X
-no_fault g e q = let z : ◌≡◌ {A = ℕ} 0 1 = cc in absurd (let no : ⊥ = omega arith in no)
+use Rattle.hello_read.proofs.Turns.{judged, judged_first, judged_wrong, judged_end, judged_late, unlike, Turn, turned}
 
 -- ---- one whole TLV
 
--- what it is, by its head and contents
-abbrev judged : ℕ → ℕ → Tlv → Result code.Tlv TlvFault
-judged p n t =
-    cond (ltb n 3 && not (eqb (kind t.high) (n + 1))) (Err (Order p))
-    (cond (eqb (kind t.high) 0) (end (length t.contents) p)
-    (cond (eqb (kind t.high) 127) (specific t.contents p)
-    (Ok (Filled (length t.contents) false))))
-
 module _ (p n : ℕ) (t : Tlv) (rest : List ℕ) (whole : Whole t) where
-  whole_at : tlv_at p n (tlv_bytes t ++ rest) ≡ judged p n t
+  whole_at : tlv_at p n (tlv_bytes t ++ rest) ≡ judged p n (kind t.high) t.contents
   whole_at =
       let fits : size t.high t.low ≤ length (t.contents ++ rest) = omega (arith, length-append t.contents rest) in
       let same : take (size t.high t.low) (t.contents ++ rest) ≡ t.contents = take_at t.contents rest _ (sym whole) in
@@ -38,7 +22,7 @@ module _ (p n : ℕ) (t : Tlv) (rest : List ℕ) (whole : Whole t) where
   behind = ap (λ k. drop k (t.low ∷ (t.contents ++ rest))) (add-one (length t.contents)) ∙ drop_at t.contents rest _ refl
 
   -- the walk goes on behind it
-  goes : (f g : Option ℕ) (hello : Bool) → judged p n t ≡ Ok (Filled (length t.contents) hello) → noted f hello p ≡ Ok g
+  goes : (f g : Option ℕ) (hello : Bool) → judged p n (kind t.high) t.contents ≡ Ok (Filled (length t.contents) hello) → noted f hello p ≡ Ok g
       → walk 0 p n f (tlv_bytes t ++ rest) ≡ walk 0 (p + (2 + length t.contents)) (n + 1) g rest
   goes f g hello is found =
       turned p n f (tlv_bytes t ++ rest)
@@ -49,29 +33,6 @@ hello_no_end : (t : Tlv) → is_hello t ≡ true → eqb (kind t.high) 0 ≡ fal
 hello_no_end t is =
     let type = eqb-true (kind t.high) 127 (and_parts (eqb (kind t.high) 127) (starts organization t.contents) is).0 in
     ne_eqb (kind t.high) 0 (λ e. omega arith)
-
--- What each kind of TLV is judged to be.
-module _ (p n : ℕ) (t : Tlv) where
-  judged_first : n < 3 → kind t.high ≡ n + 1 → judged p n t ≡ Ok (Filled (length t.contents) false)
-  judged_first early is =
-      let due : eqb (kind t.high) (n + 1) ≡ true = eq-eqb (kind t.high) (n + 1) is in
-      rw (lt-ltb n 3 early, due, ne_eqb (kind t.high) 0 (λ e. omega arith), ne_eqb (kind t.high) 127 (λ e. omega arith))
-
-  judged_wrong : n < 3 → eqb (kind t.high) (n + 1) ≡ false → judged p n t ≡ Err (Order p)
-  judged_wrong early is = rw (lt-ltb n 3 early, is)
-
-  judged_end : 3 ≤ n → eqb (kind t.high) 0 ≡ true → judged p n t ≡ end (length t.contents) p
-  judged_end late is = rw (le-ltb n 3 late, is)
-
-  -- past the first three, and no end
-  judged_late : 3 ≤ n → eqb (kind t.high) 0 ≡ false
-      → judged p n t ≡ cond (is_hello t && not (eqb (length t.contents) 86)) (Err (Length p)) (Ok (Filled (length t.contents) (is_hello t)))
-  judged_late late is =
-      rw (le-ltb n 3 late, is)
-      (elim (eqb (kind t.high) 127) as (λ b.
-      cond b (specific t.contents p) (Ok (Filled (length t.contents) false))
-      ≡ cond (b && starts organization t.contents && not (eqb (length t.contents) 86)) (Err (Length p)) (Ok (Filled (length t.contents) (b && starts organization t.contents))))
-      [ true ↦ refl | false ↦ refl ])
 
 -- ---- rows of TLVs
 
@@ -87,20 +48,20 @@ Run p n f g (t ∷ ts) = (h : Option ℕ) × Right p n f h t × Run (p + (2 + le
 
 module _ (p n : ℕ) (f : Option ℕ) (t : Tlv) (rest : List ℕ) where
   right_first : (g : Option ℕ) → n < 3 → Typed (n + 1) t → g ≡ f → walk 0 p n f (tlv_bytes t ++ rest) ≡ walk 0 (p + (2 + length t.contents)) (n + 1) g rest
-  right_first g early is same = goes p n t rest is.whole f g false (judged_first p n t early is.type) (ap Ok (sym same))
+  right_first g early is same = goes p n t rest is.whole f g false (judged_first p n (kind t.high) t.contents early is.type) (ap Ok (sym same))
 
   right_other : (g : Option ℕ) → 3 ≤ n → Other t → g ≡ f → walk 0 p n f (tlv_bytes t ++ rest) ≡ walk 0 (p + (2 + length t.contents)) (n + 1) g rest
   right_other g late is same =
       let no = is.no_hello in
       goes p n t rest is.whole f g false
-      (judged_late p n t late (ne_eqb (kind t.high) 0 is.no_end)
+      (judged_late p n (kind t.high) t.contents late (ne_eqb (kind t.high) 0 is.no_end)
       ∙ ap (λ b. cond (b && not (eqb (length t.contents) 86)) (Err (Length p)) (Ok (Filled (length t.contents) b))) no)
       (ap Ok (sym same))
 
   right_hello : (g : Option ℕ) → 3 ≤ n → HelloTlv t → f ≡ None → g ≡ Some p → walk 0 p n f (tlv_bytes t ++ rest) ≡ walk 0 (p + (2 + length t.contents)) (n + 1) g rest
   right_hello g late is none some =
       goes p n t rest is.whole f g true
-      (judged_late p n t late (hello_no_end t is.is)
+      (judged_late p n (kind t.high) t.contents late (hello_no_end t is.is)
       ∙ (λ i. cond (is.is i && not (eqb (is.long i) 86)) (Err (Length p)) (Ok (Filled (length t.contents) (is.is i)))))
       (ap (λ o. noted o true p) none ∙ ap Ok (sym some))
 
@@ -111,7 +72,7 @@ module _ (p n : ℕ) (f : Option ℕ) (t : Tlv) (rest : List ℕ) where
 ends : (p n : ℕ) (f : Option ℕ) (ignored : List ℕ) → 3 ≤ n → walk 0 p n f (0 ∷ 0 ∷ ignored) ≡ Ok f
 ends p n f ignored late =
     let t : Tlv = record { high = 0; low = 0; contents = [] } in
-    turned p n f (0 ∷ 0 ∷ ignored) ∙ ap (Turn p n f (0 ∷ ignored)) (whole_at p n t ignored refl ∙ judged_end p n t late refl)
+    turned p n f (0 ∷ 0 ∷ ignored) ∙ ap (Turn p n f (0 ∷ ignored)) (whole_at p n t ignored refl ∙ judged_end p n (kind t.high) t.contents late refl)
 
 -- A right row up to an end is walked.
 pub run_walked : (p n : ℕ) (f g : Option ℕ) (ts : List Tlv) (ignored : List ℕ) → Run p n f g ts → walk 0 p n f (tlvs_bytes ts ++ 0 ∷ 0 ∷ ignored) ≡ Ok g
@@ -163,11 +124,11 @@ no_bytes t rest whole type none =
 
 module _ (p n : ℕ) (f g : Option ℕ) (t : Tlv) (rest : List ℕ) (whole : Whole t) (ok : walk 0 p n f (tlv_bytes t ++ rest) ≡ Ok g) where
   -- what t is judged to be decides
-  by_judged : Turn p n f (t.low ∷ (t.contents ++ rest)) (judged p n t) ≡ Ok g
+  by_judged : Turn p n f (t.low ∷ (t.contents ++ rest)) (judged p n (kind t.high) t.contents) ≡ Ok g
   by_judged = sym (turned p n f (tlv_bytes t ++ rest) ∙ ap (Turn p n f (t.low ∷ (t.contents ++ rest))) (whole_at p n t rest whole)) ∙ ok
 
-  not_fault : {X : Type 0} (e : TlvFault) → judged p n t ≡ Err e → X
-  not_fault e is = no_fault g e (sym (ap (Turn p n f (t.low ∷ (t.contents ++ rest))) is) ∙ by_judged)
+  not_fault : {X : Type 0} (e : TlvFault) → judged p n (kind t.high) t.contents ≡ Err e → X
+  not_fault e is = unlike (sym (ap (Turn p n f (t.low ∷ (t.contents ++ rest))) is) ∙ by_judged)
 
   goes_on : (h : Option ℕ) → Right p n f h t → Step p n f g t rest
   goes_on h so = inr (h, so, sym (right p n f t rest h so) ∙ ok)
@@ -176,30 +137,30 @@ module _ (p n : ℕ) (f g : Option ℕ) (t : Tlv) (rest : List ℕ) (whole : Who
   step_first early =
       ⊎_elim
       (λ due. goes_on f (inl (early, record { whole = whole; type = eqb-true (kind t.high) (n + 1) due }, refl)))
-      (λ other. not_fault (Order p) (judged_wrong p n t early other))
+      (λ other. not_fault (Order p) (judged_wrong p n (kind t.high) t.contents early other))
       (cases_Bool (eqb (kind t.high) (n + 1)))
 
   step_end : 3 ≤ n → eqb (kind t.high) 0 ≡ true → Step p n f g t rest
   step_end late type =
       ⊎_elim
       (λ none.
-      let is : judged p n t ≡ Ok End = judged_end p n t late type ∙ ap (λ b. cond b (Ok End) (Err (FilledEnd p))) none in
-      let same : ◌≡◌ {A = Found} (Ok f) (Ok g) = sym (ap (Turn p n f (t.low ∷ (t.contents ++ rest))) is) ∙ by_judged in
+      let is : judged p n (kind t.high) t.contents ≡ Ok End = judged_end p n (kind t.high) t.contents late type ∙ ap (λ b. cond b (Ok End) (Err (FilledEnd p))) none in
+      let same : ◌≡◌ {A = Result (Option ℕ) TlvFault} (Ok f) (Ok g) = sym (ap (Turn p n f (t.low ∷ (t.contents ++ rest))) is) ∙ by_judged in
       inl (late, cc, no_bytes t rest whole (eqb-true (kind t.high) 0 type) (eqb-true (length t.contents) 0 none)))
-      (λ some. not_fault (FilledEnd p) (judged_end p n t late type ∙ ap (λ b. cond b (Ok End) (Err (FilledEnd p))) some))
+      (λ some. not_fault (FilledEnd p) (judged_end p n (kind t.high) t.contents late type ∙ ap (λ b. cond b (Ok End) (Err (FilledEnd p))) some))
       (cases_Bool (eqb (length t.contents) 0))
 
   -- a HELLO that is none's second
   step_hello : 3 ≤ n → eqb (kind t.high) 0 ≡ false → is_hello t ≡ true → length t.contents ≡ 86 → (o : Option ℕ) → f ≡ o → Step p n f g t rest
   step_hello late type is long None none = goes_on (Some p) (inr (inr (late, record { whole = whole; is = is; long = long }, none, refl)))
   step_hello late type is long (Some q) some =
-      let judged_so : judged p n t ≡ Ok (Filled (length t.contents) true) =
-      judged_late p n t late type ∙ (λ i. cond (is i && not (eqb (long i) 86)) (Err (Length p)) (Ok (Filled (length t.contents) (is i))))
+      let judged_so : judged p n (kind t.high) t.contents ≡ Ok (Filled (length t.contents) true) =
+      judged_late p n (kind t.high) t.contents late type ∙ (λ i. cond (is i && not (eqb (long i) 86)) (Err (Length p)) (Ok (Filled (length t.contents) (is i))))
       in
       let twice : Turn p n f (t.low ∷ (t.contents ++ rest)) (Ok (Filled (length t.contents) true)) ≡ Err (Second p) =
       ap (λ o. Turn p n o (t.low ∷ (t.contents ++ rest)) (Ok (Filled (length t.contents) true))) some
       in
-      no_fault g (Second p) (sym (ap (Turn p n f (t.low ∷ (t.contents ++ rest))) judged_so ∙ twice) ∙ by_judged)
+      unlike (sym (ap (Turn p n f (t.low ∷ (t.contents ++ rest))) judged_so ∙ twice) ∙ by_judged)
 
   step_late : 3 ≤ n → eqb (kind t.high) 0 ≡ false → Step p n f g t rest
   step_late late type =
@@ -207,7 +168,7 @@ module _ (p n : ℕ) (f g : Option ℕ) (t : Tlv) (rest : List ℕ) (whole : Who
       (λ is.
       ⊎_elim
       (λ long. step_hello late type is (eqb-true (length t.contents) 86 long) f refl)
-      (λ other. not_fault (Length p) (judged_late p n t late type ∙ (λ i. cond (is i && not (other i)) (Err (Length p)) (Ok (Filled (length t.contents) (is i))))))
+      (λ other. not_fault (Length p) (judged_late p n (kind t.high) t.contents late type ∙ (λ i. cond (is i && not (other i)) (Err (Length p)) (Ok (Filled (length t.contents) (is i))))))
       (cases_Bool (eqb (length t.contents) 86)))
       (λ no. goes_on f (inr (inl (late, record { whole = whole; no_end = eqb-false (kind t.high) 0 type; no_hello = no }, refl))))
       (cases_Bool (is_hello t))
@@ -238,12 +199,12 @@ onward most p n f g bs fits ok more t rest is so =
     so
 
 walked_within : (most p n : ℕ) (f g : Option ℕ) (bs : List ℕ) → length bs ≤ most → walk 0 p n f bs ≡ Ok g → Walked p n f g bs
-walked_within zero p n f g bs fits ok = no_fault g (NoEnd p) (ap (walk 0 p n f) (sym (nil_from_length bs (omega arith))) ∙ ok)
+walked_within zero p n f g bs fits ok = unlike (ap (walk 0 p n f) (sym (nil_from_length bs (omega arith))) ∙ ok)
 walked_within (suc most) p n f g bs fits ok =
     ⊎_elim
     (λ c. onward most p n f g bs fits ok (λ q m h rest. walked_within most q m h g rest) c.0 c.1 c.2
     (step p n f g c.0 c.1 c.3 (ap (walk 0 p n f) (sym c.2) ∙ ok)))
-    (λ stop. no_fault g stop.0 (sym (turned p n f bs ∙ ap (Turn p n f (drop 1 bs)) stop.1) ∙ ok))
+    (λ stop. unlike (sym (turned p n f bs ∙ ap (Turn p n f (drop 1 bs)) stop.1) ∙ ok))
     (cut p n bs)
 
 pub walked : (p n : ℕ) (f g : Option ℕ) (bs : List ℕ) → walk 0 p n f bs ≡ Ok g → Walked p n f g bs

@@ -6,14 +6,19 @@ use Rattle.hello_read.specs.declared.fault.TlvFault.{TlvFault}
 use Rattle.hello_read.specs.declared.fault.TlvFault.TheVariants.{Order, Past, FilledEnd, Length, Second, NoEnd, Field}
 use Rattle.hello_read.specs.declared.fault.FrameFault.{FrameFault}
 use Rattle.hello_read.specs.declared.fault.FrameFault.TheVariants.{Size, Foreign, NoHello, Tlv}
-use Rattle.hello_read.specs.declared.fault.Refusal as code_refusal
-use Rattle.hello_read.specs.declared.read.HelloFrame as code
+use Rattle.hello_read.specs.declared.fault.Refusal as refused
+use Rattle.hello_read.specs.declared.fault.Refusal.TheVariants as refusal
+use Rattle.hello_read.specs.declared.frame.HelloFrame as code
 use Rattle.hello_read.specs.Hellos.{Hello, means}
 use Rattle.hello_read.specs.Layout.{bytes_at}
 
 -- the number, and the values that it names
 abbrev pub Refusal : Type 0
 Refusal = ℕ × List ℕ
+
+-- fewer than 125 bytes are left
+abbrev pub short : Refusal
+short = (1, [])
 
 abbrev pub broken : ℕ → Refusal
 broken place = (15, place ∷ [])
@@ -28,8 +33,11 @@ abbrev pub listed : Option ℕ → List ℕ
 listed None = []
 listed (Some place) = place ∷ []
 
-abbrev pub refusal_of : code_refusal.Refusal → Refusal
-refusal_of r = (r.number, listed r.place)
+abbrev pub refusal_of : refused.Refusal → Refusal
+refusal_of refusal.Short = short
+refusal_of (refusal.Broken place) = broken place
+refusal_of refusal.Foreign = foreign
+refusal_of (refusal.Field offset) = field offset
 
 -- a field's offset in the contents of the HELLO TLV
 abbrev pub offset : FieldFault → ℕ

@@ -3,8 +3,6 @@ use Rattle.std.specs.Prelude.{ℕ, zero, suc, ◌+◌, ◌*◌, ◌/◌, ◌%◌
 use Rattle.std.specs.Str.{bytes_eq}
 use Rattle.hello_read.specs.declared.fault.TlvFault.{TlvFault}
 use Rattle.hello_read.specs.declared.fault.TlvFault.TheVariants.{Order, Past, FilledEnd, Length, Second, NoEnd}
-use Rattle.hello_read.specs.declared.tlv.Tlv as code
-use Rattle.hello_read.specs.declared.tlv.Tlv.TheVariants.{End, Filled}
 use Rattle.hello_read.specs.Layout.{organization}
 
 -- The head: the type in the high 7 bits, the length of the contents in the low 9.
@@ -17,19 +15,31 @@ size high low = high % 2 * 256 + low
 abbrev pub starts : List ℕ → List ℕ → Bool
 starts front bs = bytes_eq front (take (length front) bs)
 
+-- What stands next in a frame: the end, or a TLV with so many bytes of contents, a HELLO or none.
+pub data Next : Type 0 where
+  End : Next
+  Filled : ℕ → Bool → Next
+
 -- One TLV, whose head stands at place p.
+-- the type and the contents of the one at the front of the rest of the frame
+abbrev pub cut : ℕ → List ℕ → Result (ℕ × List ℕ) TlvFault
+cut p [] = Err (NoEnd p)
+cut p (high ∷ []) = Err (NoEnd (p + 1))
+cut p (high ∷ low ∷ rest) =
+    cond (nat_lt (length rest) (size high low)) (Err (Past p)) (Ok (kind high, take (size high low) rest))
+
 -- of type 0
-abbrev pub end : ℕ → ℕ → Result code.Tlv TlvFault
+abbrev pub end : ℕ → ℕ → Result Next TlvFault
 end n p = cond (n == 0) (Ok End) (Err (FilledEnd p))
 
 -- of type 127, with these contents
-abbrev pub specific : List ℕ → ℕ → Result code.Tlv TlvFault
+abbrev pub specific : List ℕ → ℕ → Result Next TlvFault
 specific contents p =
     let hello = starts organization contents in
     cond (hello && not (length contents == 86)) (Err (Length p)) (Ok (Filled (length contents) hello))
 
 -- the n-th from 0, at the front of the rest of the frame
-abbrev pub tlv_at : ℕ → ℕ → List ℕ → Result code.Tlv TlvFault
+abbrev pub tlv_at : ℕ → ℕ → List ℕ → Result Next TlvFault
 tlv_at p n [] = Err (NoEnd p)
 tlv_at p n (high ∷ []) = Err (NoEnd (p + 1))
 tlv_at p n (high ∷ low ∷ rest) =
@@ -38,11 +48,6 @@ tlv_at p n (high ∷ low ∷ rest) =
     (cond (kind high == 0) (end (size high low) p)
     (cond (kind high == 127) (specific (take (size high low) rest) p)
     (Ok (Filled (size high low) false)))))
-
--- how many bytes it has, with its head
-abbrev pub span : code.Tlv → ℕ
-span End = 2
-span (Filled n hello) = 2 + n
 
 -- The HELLO found so far, once the TLV at p is known to be one or not.
 abbrev pub noted : Option ℕ → Bool → ℕ → Result (Option ℕ) TlvFault

@@ -3,11 +3,12 @@
 ghost use Rattle.std.specs.Prelude.{◌≡◌};
 ghost use Rattle.hello_read.specs.declared.fault.FrameFault.TheVariants.{Tlv};
 ghost use Rattle.hello_read.specs.declared.fault.TlvFault.TheVariants.{Field};
-ghost use Rattle.hello_read.specs.Refusals.{broken as broken_at, field, offset as offset_of, refusal_of, tlv_refusal, frame_refusal};
+ghost use Rattle.hello_read.specs.Refusals.{field, listed, offset as offset_of, refusal_of, tlv_refusal, frame_refusal};
 
 use crate::layout::{
     DIRECTION, INHIBITION, LINE, REMOTE, SOURCE, STATUSES, TIMEOUT, UUID, VENDOR, VERSION,
 };
+use std::fmt;
 
 /// The field of a HELLO that has a value outside its range or too wide, or a wrong length: refusal 17.
 #[derive(Clone, Copy, PartialEq, Eq, Debug)]
@@ -56,19 +57,53 @@ pub enum FrameFault {
     Tlv(TlvFault),
 }
 
-/// A refusal's number, and the place or offset that it names.
+/// A refusal, with the place or the offset that it names.
 #[derive(Clone, Copy, PartialEq, Eq, Debug)]
-pub struct Refusal {
-    pub number: u32,
-    pub place: Option<usize>,
+pub enum Refusal {
+    /// Too small a buffer: refusal 1.
+    Short,
+    /// A frame's size or a TLV is wrong, at this place: refusal 15.
+    Broken(usize),
+    /// No HELLO frame: refusal 16.
+    Foreign,
+    /// The field at this offset is wrong: refusal 17.
+    Field(usize),
 }
 
-fn broken(place: usize) -> Refusal
-    ensures { refusal_of result ≡ broken_at place }
-{
-    Refusal {
-        number: 15,
-        place: Some(place),
+impl Refusal {
+    /// The number by which C knows the refusal.
+    pub fn number(self) -> u32
+        ensures { result ≡ (refusal_of self).0 }
+    {
+        match self {
+            Refusal::Short => 1,
+            Refusal::Broken(_) => 15,
+            Refusal::Foreign => 16,
+            Refusal::Field(_) => 17,
+        }
+    }
+
+    /// The place or the offset that it names.
+    pub fn place(self) -> Option<usize>
+        ensures { listed result ≡ (refusal_of self).1 }
+    {
+        match self {
+            Refusal::Broken(place) | Refusal::Field(place) => Some(place),
+            Refusal::Short | Refusal::Foreign => None,
+        }
+    }
+}
+
+/// The number, the word and what is named.
+impl fmt::Display for Refusal {
+    fn fmt<W: fmt::Write>(&self, f: &mut fmt::Formatter<W>) -> fmt::Result {
+        let number = self.number();
+        match self {
+            Refusal::Short => write!(f, "{number} Short"),
+            Refusal::Broken(place) => write!(f, "{number} Broken {place}"),
+            Refusal::Foreign => write!(f, "{number} Foreign"),
+            Refusal::Field(offset) => write!(f, "{number} Field {offset}"),
+        }
     }
 }
 
@@ -90,48 +125,41 @@ impl FieldFault {
             FieldFault::Uuid => UUID.at,
         }
     }
+}
 
-    pub fn refusal(self) -> Refusal
-        ensures { refusal_of result ≡ field (offset_of self) }
-    {
-        Refusal {
-            number: 17,
-            place: Some(self.offset()),
+// By hand, as each below: a derived `From` has no contract, and clauses name the error that `?` makes.
+impl From<FieldFault> for Refusal {
+    ghost from_gives = { λ f r. refusal_of r ≡ field (offset_of f) };
+
+    fn from(fault: FieldFault) -> Refusal {
+        Refusal::Field(fault.offset())
+    }
+}
+
+impl From<TlvFault> for Refusal {
+    ghost from_gives = { λ f r. refusal_of r ≡ tlv_refusal f };
+
+    fn from(fault: TlvFault) -> Refusal {
+        match fault {
+            TlvFault::Order(at)
+            | TlvFault::Past(at)
+            | TlvFault::FilledEnd(at)
+            | TlvFault::Length(at)
+            | TlvFault::Second(at)
+            | TlvFault::NoEnd(at) => Refusal::Broken(at),
+            TlvFault::Field(fault) => Refusal::from(fault),
         }
     }
 }
 
-impl TlvFault {
-    pub fn refusal(self) -> Refusal
-        ensures { refusal_of result ≡ tlv_refusal self }
-    {
-        match self {
-            TlvFault::Order(at) => broken(at),
-            TlvFault::Past(at) => broken(at),
-            TlvFault::FilledEnd(at) => broken(at),
-            TlvFault::Length(at) => broken(at),
-            TlvFault::Second(at) => broken(at),
-            TlvFault::NoEnd(at) => broken(at),
-            TlvFault::Field(fault) => fault.refusal(),
-        }
-    }
-}
+impl From<FrameFault> for Refusal {
+    ghost from_gives = { λ f r. refusal_of r ≡ frame_refusal f };
 
-impl FrameFault {
-    pub fn refusal(self) -> Refusal
-        ensures { refusal_of result ≡ frame_refusal self }
-    {
-        match self {
-            FrameFault::Size(length) => broken(length),
-            FrameFault::Foreign => Refusal {
-                number: 16,
-                place: None,
-            },
-            FrameFault::NoHello => Refusal {
-                number: 16,
-                place: None,
-            },
-            FrameFault::Tlv(fault) => fault.refusal(),
+    fn from(fault: FrameFault) -> Refusal {
+        match fault {
+            FrameFault::Size(length) => Refusal::Broken(length),
+            FrameFault::Foreign | FrameFault::NoHello => Refusal::Foreign,
+            FrameFault::Tlv(fault) => Refusal::from(fault),
         }
     }
 }

@@ -18,6 +18,8 @@ pub const ORGANIZATION: [u8; 4] = [0x20, 0x0E, 0x95, 0x01];
 pub const CONTENTS: usize = 86;
 
 /// A field of these contents: its offset and how many bytes it has.
+// That a number has at most 8 bytes is no part of the type, since vendor and UUID are fields too; that a field lies in a slice
+// speaks of both.
 #[derive(Clone, Copy)]
 pub struct Field {
     pub at: usize,

@@ -3,16 +3,18 @@
 #![tactic(auto)]
 
 mod fault;
+mod frame;
 pub mod layout;
 mod range;
 mod read;
 mod tlv;
 
 pub use fault::{FieldFault, FrameFault, Refusal, TlvFault};
+pub use frame::HelloFrame;
 pub use range::ask;
-pub use read::HelloFrame;
 
 /// The fields of a HELLO that are numbers, with any values: what is read is in range.
+/// Codes and no enums, since C reads and writes this struct.
 #[repr(C)]
 #[derive(Clone, Copy, Debug)]
 pub struct Fields {

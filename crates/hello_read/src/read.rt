@@ -7,6 +7,7 @@ ghost use Rattle.hello_read.specs.Frames.{Exact};
 ghost use Rattle.hello_read.specs.Refusals.{Borrows, read_told};
 ghost use Rattle.hello_read.specs.Reading.{headed, contents_at, asked, Refuses, read};
 
+use crate::frame::HelloFrame;
 use crate::layout::{
     CHECKSUM, CONTENTS, COUNTER, DESTINATION, DIRECTION, Field, HEAD, INHIBITION, LIFE_SIGN, LINE,
     LONGEST, PORT, REMOTE, SOURCE, STATUSES, TAG, TAG_AT, TIMEOUT, UUID, VENDOR, VERSION,
@@ -26,59 +27,15 @@ fn part(contents: &[u8], field: Field) -> &[u8]
     &contents[at..at + bytes]
 }
 
-/// The number that bytes write.
-fn number_of(bytes: &[u8]) -> u64
-    requires { length bytes.now ≤ 8 }
-    ensures value { result ≡ number bytes.now }
-    ensures fits { result < 256 ^ length bytes.now }
-{
-    let mut value = 0;
-    for byte in bytes {
-        value = value * 256 + u64::from(*byte);
-    }
-    value
-}
-
 /// The number in a field.
 fn number_at(contents: &[u8], field: Field) -> u64
     requires { (field.at + field.bytes ≤ length contents.now) × (field.bytes ≤ 8) }
     ensures value { result ≡ number_at field.at field.bytes contents.now }
     ensures fits { result < 256 ^ field.bytes }
 {
-    number_of(part(contents, field))
-}
-
-/// The number in a field of one byte.
-fn byte_at(contents: &[u8], field: Field) -> u8
-    requires { (field.at + 1 ≤ length contents.now) × (field.bytes ≡ 1) }
-    ensures { result ≡ number_at field.at 1 contents.now }
-{
-    number_at(contents, field) as u8
-}
-
-fn fields_in(contents: &[u8]) -> Fields
-    requires { length contents.now ≡ 86 }
-    ensures { hello_of result (bytes_at 18 32 contents.now) (bytes_at 70 16 contents.now) ≡ hello_in contents.now }
-{
-    let statuses = byte_at(contents, STATUSES);
-    Fields {
-        source: number_at(contents, SOURCE),
-        remote: number_at(contents, REMOTE),
-        life_sign: number_at(contents, LIFE_SIGN) as u32,
-        counter: number_at(contents, COUNTER) as u32,
-        checksum: number_at(contents, CHECKSUM) as u16,
-        statuses: [
-            statuses / 64 % 4,
-            statuses / 16 % 4,
-            statuses / 4 % 4,
-            statuses % 4,
-        ],
-        timeout: byte_at(contents, TIMEOUT),
-        port: byte_at(contents, PORT),
-        line: byte_at(contents, LINE),
-        direction: byte_at(contents, DIRECTION),
-        inhibition: byte_at(contents, INHIBITION) % 4,
-    }
+    let mut bytes = [0; 8];
+    bytes[8 - field.bytes..].copy_from_slice(part(contents, field));
+    u64::from_be_bytes(bytes)
 }
 
 /// The fields in the contents of a HELLO TLV, or the first that is out of range.
@@ -92,7 +49,25 @@ fn read_fields(contents: &[u8]) -> Result<Fields, FieldFault>
         number_at(contents, VERSION) == VERSION_1,
         FieldFault::Version,
     )?;
-    let fields = fields_in(contents);
+    let statuses = number_at(contents, STATUSES) as u8;
+    let fields = Fields {
+        source: number_at(contents, SOURCE),
+        remote: number_at(contents, REMOTE),
+        life_sign: number_at(contents, LIFE_SIGN) as u32,
+        counter: number_at(contents, COUNTER) as u32,
+        checksum: number_at(contents, CHECKSUM) as u16,
+        statuses: [
+            statuses / 64 % 4,
+            statuses / 16 % 4,
+            statuses / 4 % 4,
+            statuses % 4,
+        ],
+        timeout: number_at(contents, TIMEOUT) as u8,
+        port: number_at(contents, PORT) as u8,
+        line: number_at(contents, LINE) as u8,
+        direction: number_at(contents, DIRECTION) as u8,
+        inhibition: number_at(contents, INHIBITION) as u8 % 4,
+    };
     fields.check_ranges()?;
     Ok(fields)
 }
@@ -121,22 +96,12 @@ fn is_headed(frame: &[u8]) -> bool
     frame.starts_with(&DESTINATION) && frame[TAG_AT..].starts_with(&TAG)
 }
 
-/// A frame that holds a HELLO, checked.
-#[derive(Clone, Copy)]
-pub struct HelloFrame<'f> {
-    pub frame: &'f [u8],
-    pub hello: Hello<'f>,
-    /// Where vendor and UUID stand in the frame.
-    pub vendor_at: usize,
-    pub uuid_at: usize,
-}
-
 /// The checks in their order.
 fn read_frame(frame: &[u8]) -> Result<HelloFrame<'_>, FrameFault>
     ensures answer { read_told result ≡ read frame.now }
     ensures frame { IfOk result (λ f. Borrows frame.now f) }
 {
-    if frame.len() < HEAD || frame.len() > LONGEST {
+    if !(HEAD..=LONGEST).contains(&frame.len()) {
         return Err(FrameFault::Size(frame.len()));
     }
     if !is_headed(frame) {

@@ -95,9 +95,6 @@ written h none =
       uuid = eqb-true (length h.uuid) 16 j.0;
     }
 
-pub writable_lengths : (h : Hello) → first_wrong (writable h) ≡ None → (length h.vendor ≡ 32) × (length h.uuid ≡ 16)
-writable_lengths h none = let w = written h none in (w.vendor, w.uuid)
-
 -- the contents, read again
 module _ (h : Hello) (widths : Widths h) (none : first_wrong (writable h) ≡ None) where
   long_front : length (contents_front h ++ h.vendor) ≡ 50

@@ -5,11 +5,6 @@ use Rattle.std.proofs.lemmas.List.{take_rest, take_at, drop_at, drop-drop, drop_
 use Rattle.hello_write.specs.Layout.{big}
 use Rattle.hello_write.specs.Writing.{laid}
 
--- `s[n..n + k].copy_from_slice(xs)`
-pub laid_copy : (n k : ℕ) (xs s part : List ℕ) → part ≡ xs → k ≡ length xs → put_mid n k s part ≡ laid n xs s
-laid_copy n k xs s part is size =
-    (λ i. take n s ++ (is i ++ drop (size i) (drop n s))) ∙ ap (λ l. take n s ++ (xs ++ l)) (drop-drop (length xs) n s)
-
 -- a callee that lays xs at the front of `&mut s[n..]` has laid it at n in s
 pub laid_part : (n : ℕ) (s xs part : List ℕ) → n ≤ length s → part ≡ laid 0 xs (take (length s - n) (drop n s)) → put_mid n (length s - n) s part ≡ laid n xs s
 laid_part n s xs part h e =
@@ -33,7 +28,7 @@ laid_laid a n xs ys bs e h =
     in
     (λ i. front i ++ (ys ++ back i)) ∙ append_assoc (take a bs) xs (ys ++ tail) ∙ ap (λ l. take a bs ++ l) (sym (append_assoc xs ys tail))
 
-length_laid : (a : ℕ) (xs bs : List ℕ) → a + length xs ≤ length bs → length (laid a xs bs) ≡ length bs
+pub length_laid : (a : ℕ) (xs bs : List ℕ) → a + length xs ≤ length bs → length (laid a xs bs) ≡ length bs
 length_laid a xs bs h =
     omega (arith, length-append (take a bs) (xs ++ drop (a + length xs) bs), length-append xs (drop (a + length xs) bs), length-drop (a + length xs) bs, length-take-le a bs (omega arith))
 
@@ -54,6 +49,13 @@ pub then_part :
 then_part a n xs ys bs s part is e h so =
     let long : length s ≡ length bs = ap length is ∙ length_laid a xs bs (omega arith) in
     then a n xs ys bs is e h (laid_part n s ys part (omega arith) so)
+
+-- the same of bytes and a number, known under another name
+pub then_tlv :
+    (a n bytes : ℕ) (xs front : List ℕ) (v : ℕ) (bs s part : List ℕ) {w : ℕ} → w ≡ v → s ≡ laid a xs bs → a + length xs ≡ n → n ≤ length bs
+    → part ≡ laid 0 (front ++ big bytes w) (take (length s - n) (drop n s)) → put_mid n (length s - n) s part ≡ laid a (xs ++ (front ++ big bytes v)) bs
+then_tlv a n bytes xs front v bs s part same is e h so =
+    then_part a n xs (front ++ big bytes v) bs s part is e h (so ∙ ap (λ k. laid 0 (front ++ big bytes k) (take (length s - n) (drop n s))) same)
 
 -- what was laid, cut out again
 pub laid_cut : (at : ℕ) (xs bs : List ℕ) → at + length xs ≤ length bs → take (length xs) (drop at (laid at xs bs)) ≡ xs

@@ -1,16 +1,17 @@
 -- What the writer answers, what it leaves in the buffer, and what is read back. Assumes nothing.
-use Rattle.std.specs.Prelude.{ℕ, ◌+◌, Bool, true, false, List, [], ◌++◌, length, take, drop, Some, None, Ok, Err, Option, Result, nat_le}
+use Rattle.std.specs.Prelude.{ℕ, ◌+◌, Bool, true, false, List, ◌++◌, length, take, drop, Some, None, Ok, Err, Option, Result, nat_le}
 use Rattle.hello_read.specs.declared.fault.FieldFault.{FieldFault}
-use Rattle.hello_read.specs.Hellos.{Hello, first_wrong}
-use Rattle.hello_read.specs.Refusals.{Refusal, Answer, field, offset}
+use Rattle.hello_read.specs.Hellos.{Hello, hello_of, first_wrong}
+use Rattle.hello_read.specs.Refusals.{Refusal, Answer, short, field, offset}
+use Rattle.hello_write.specs.declared.Writable.{Writable}
 use Rattle.hello_write.specs.declared.fault.WriteFault.{WriteFault}
 use Rattle.hello_write.specs.declared.fault.WriteFault.TheVariants.{Field, Short}
 use Rattle.hello_write.specs.Widths.{writable}
 use Rattle.hello_write.specs.Layout.{frame}
 
--- fewer than 125 bytes are left
-abbrev pub short : Refusal
-short = (1, [])
+-- what a checked HELLO means
+abbrev pub meant : Writable → Hello
+meant w = hello_of w.fields w.vendor.now w.uuid.now
 
 abbrev pub write_refusal : WriteFault → Refusal
 write_refusal (Field fault) = field (offset fault)

@@ -3,27 +3,34 @@
 ghost use Rattle.std.specs.Prelude.{◌≡◌, Some, None, MatchResult};
 ghost use Rattle.hello_read.specs.Hellos.{means, first_wrong};
 ghost use Rattle.hello_write.specs.Widths.{narrow, writable};
+ghost use Rattle.hello_write.specs.Writing.{meant};
 
-use hello_read::layout::{UUID, VENDOR};
+use crate::Writable;
 use hello_read::{FieldFault, Hello, ask};
 
 /// Whether each status has at most 2 bits.
 fn are_narrow(statuses: [u8; 4]) -> bool
     ensures { result ≡ narrow statuses }
 {
-    let [a, b, c, d] = statuses;
-    a < 4 && b < 4 && c < 4 && d < 4
+    statuses.iter().all(|status| *status < 4)
 }
 
-/// The first field, from the left, that cannot be written.
-pub(crate) fn check(hello: &Hello<'_>) -> Result<(), FieldFault>
-    ensures { MatchResult result (λ _. first_wrong (writable (means hello.now)) ≡ None) (λ f. first_wrong (writable (means hello.now)) ≡ Some f) }
+/// The HELLO if it can be written, or the first field, from the left, that cannot.
+pub(crate) fn check<'a>(hello: &Hello<'a>) -> Result<Writable<'a>, FieldFault>
+    ensures { MatchResult result
+        (λ w. (meant w ≡ means hello.now) × (first_wrong (writable (means hello.now)) ≡ None))
+        (λ f. first_wrong (writable (means hello.now)) ≡ Some f) }
 {
     let fields = hello.fields;
-    ask(hello.vendor.len() == VENDOR.bytes, FieldFault::Vendor)?;
+    let vendor = hello.vendor.as_array().ok_or(FieldFault::Vendor)?;
     ask(are_narrow(fields.statuses), FieldFault::Statuses)?;
     fields.check_ranges()?;
     ask(fields.inhibition < 4, FieldFault::Inhibition)?;
     ask(fields.remote < 1 << 48, FieldFault::Remote)?;
-    ask(hello.uuid.len() == UUID.bytes, FieldFault::Uuid)
+    let uuid = hello.uuid.as_array().ok_or(FieldFault::Uuid)?;
+    Ok(Writable {
+        fields,
+        vendor,
+        uuid,
+    })
 }

@@ -16,16 +16,14 @@ pub enum WriteFault {
     Short,
 }
 
-impl WriteFault {
-    pub fn refusal(self) -> Refusal
-        ensures { refusal_of result ≡ write_refusal self }
-    {
-        match self {
-            WriteFault::Field(fault) => fault.refusal(),
-            WriteFault::Short => Refusal {
-                number: 1,
-                place: None,
-            },
+// By hand, as each below: a derived `From` has no contract, and clauses name the error that `?` makes.
+impl From<WriteFault> for Refusal {
+    ghost from_gives = { λ f r. refusal_of r ≡ write_refusal f };
+
+    fn from(fault: WriteFault) -> Refusal {
+        match fault {
+            WriteFault::Field(fault) => Refusal::from(fault),
+            WriteFault::Short => Refusal::Short,
         }
     }
 }

@@ -7,31 +7,41 @@ pub(crate) const FRAME: usize = 125;
 /// The frame's source.
 pub(crate) const SENDER: Field = Field { at: 6, bytes: 6 };
 
-/// The chassis TLV: type 1, length 7, subtype 4, and the sender's MAC.
-pub(crate) const CHASSIS_AT: usize = 18;
+/// A TLV with a number at its end: where it stands, the bytes that it begins with, and how many bytes the number has.
+#[derive(Clone, Copy)]
+pub(crate) struct NumberTlv {
+    pub(crate) at: usize,
+    pub(crate) front: &'static [u8],
+    pub(crate) bytes: usize,
+}
 
-pub(crate) const CHASSIS: [u8; 3] = [0x02, 0x07, 0x04];
+/// Type 1, length 7, subtype 4, and the sender's MAC.
+pub(crate) const CHASSIS: NumberTlv = NumberTlv {
+    at: 18,
+    front: &[0x02, 0x07, 0x04],
+    bytes: 6,
+};
 
-pub(crate) const CHASSIS_MAC: Field = Field { at: 3, bytes: 6 };
+/// Type 2, length 2, subtype 6, and the port.
+pub(crate) const PORT_TLV: NumberTlv = NumberTlv {
+    at: 27,
+    front: &[0x04, 0x02, 0x06],
+    bytes: 1,
+};
 
-/// The port TLV: type 2, length 2, subtype 6, and the port.
-pub(crate) const PORT_AT: usize = 27;
-
-pub(crate) const PORT_TLV: [u8; 3] = [0x04, 0x02, 0x06];
-
-pub(crate) const PORT_ID: Field = Field { at: 3, bytes: 1 };
-
-/// The TLV of the time to live: type 3, length 2, and the seconds.
-pub(crate) const TIME_AT: usize = 31;
-
-pub(crate) const TIME: [u8; 2] = [0x06, 0x02];
-
-pub(crate) const TIME_SECONDS: Field = Field { at: 2, bytes: 2 };
+/// Type 3, length 2, and the time to live in seconds.
+pub(crate) const TIME: NumberTlv = NumberTlv {
+    at: 31,
+    front: &[0x06, 0x02],
+    bytes: 2,
+};
 
 /// The HELLO TLV: type 127, length 86.
 pub(crate) const HELLO_AT: usize = 35;
 
 pub(crate) const HELLO: [u8; 2] = [0xFE, 0x56];
+
+pub(crate) const CONTENTS_AT: usize = 37;
 
 /// The end TLV.
 pub(crate) const END_AT: usize = 123;

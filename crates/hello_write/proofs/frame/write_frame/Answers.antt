@@ -1,24 +1,24 @@
-use Rattle.std.proofs.Common.{◌≡◌, ◌+◌, ◌++◌, length, refl, arith, length-append}
-use Rattle.hello_read.specs.Hellos.{means}
-use Rattle.hello_write.specs.Layout.{big, chassis_tlv, port_tlv, time_tlv, hello_tlv, end_tlv, contents_front, contents_back}
+use Rattle.std.proofs.Common.{◌≡◌, ◌+◌, [], ◌∷◌, ◌++◌, length, refl, arith, length-append}
 use Rattle.hello_read.specs.Layout.{head}
-use Rattle.hello_write.proofs.Laying.{then, then_part}
+use Rattle.hello_write.specs.Layout.{big, chassis_tlv, port_tlv, time_tlv, end_tlv, contents}
+use Rattle.hello_write.specs.Writing.{meant}
+use Rattle.hello_write.proofs.Laying.{then, then_part, then_tlv}
 use Rattle.hello_write.proofs.frame.write_frame.Goals as goal
 
 pub returns : goal.returns
 returns c =
     let bs = c.args.part.now in
-    let h = means c.args.hello.now in
+    let h = meant c.args.hello.now in
     let a = head (big 6 h.source) in
     let b = a ++ chassis_tlv h.source in
     let d = b ++ port_tlv h.port in
     let e = d ++ time_tlv c.args.seconds in
-    let f = e ++ hello_tlv h in
-    let one = then_part 0 18 a (chassis_tlv h.source) bs _ c.write_chassis.new.part c.write_head.ensures refl (omega arith) c.write_chassis.ensures in
-    let two = then_part 0 27 b (port_tlv h.port) bs _ c.write_port.new.part one refl (omega arith) c.write_port.ensures in
-    let three = then_part 0 31 d (time_tlv c.args.seconds) bs _ c.write_time.new.part two refl (omega arith) c.write_time.ensures in
-    let four = then_part 0 35 e (hello_tlv h) bs _ c.write_hello.new.part three refl (omega arith) c.write_hello.ensures.bytes in
-    let long : 0 + length f ≡ 123 =
-    omega (arith, length-append e (hello_tlv h), length-append (contents_front h ++ h.vendor) (contents_back h), length-append (contents_front h) h.vendor, c.requires)
-    in
-    record { bytes = then 0 123 f end_tlv bs four long (omega arith) c.put.ensures; widths = c.write_hello.ensures.widths }
+    let f = e ++ 0xFE ∷ 0x56 ∷ [] in
+    let g = f ++ contents h in
+    let one = then_tlv 0 18 6 a (2 ∷ 7 ∷ 4 ∷ []) h.source bs _ c.write_tlv.new.part refl c.write_head.ensures refl (omega arith) c.write_tlv.ensures in
+    let two = then_tlv 0 27 1 b (4 ∷ 2 ∷ 6 ∷ []) h.port bs _ c.write_tlv-2.new.part c.from-port.ensures one refl (omega arith) c.write_tlv-2.ensures in
+    let three = then_tlv 0 31 2 d (6 ∷ 2 ∷ []) c.args.seconds bs _ c.write_tlv-3.new.part c.from.ensures two refl (omega arith) c.write_tlv-3.ensures in
+    let four = then 0 35 e (0xFE ∷ 0x56 ∷ []) bs three refl (omega arith) c.put.ensures in
+    let five = then_part 0 37 f (contents h) bs _ c.write_contents.new.part four refl (omega arith) c.write_contents.ensures.bytes in
+    let long : 0 + length g ≡ 123 = omega (arith, length-append f (contents h), c.write_contents.ensures.size) in
+    record { bytes = then 0 123 g end_tlv bs five long (omega arith) c.put-2.ensures; widths = c.write_contents.ensures.widths }

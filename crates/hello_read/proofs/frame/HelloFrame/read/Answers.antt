@@ -1,5 +1,5 @@
 use Rattle.hello_read.proofs.Frames.{exact}
-use Rattle.hello_read.proofs.read.HelloFrame.read.Goals as goal
+use Rattle.hello_read.proofs.frame.HelloFrame.read.Goals as goal
 
 pub returns : goal.returns
 returns c = record { answer = c.read_frame.ensures.answer; frame = c.read_frame.ensures.frame; exact = exact }
