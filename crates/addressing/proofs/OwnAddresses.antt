@@ -1,5 +1,5 @@
 -- Under a lawful plan each device of a line whose place is served has an address of its own. Assumes nothing.
-use Rattle.std.proofs.Common.{◌≡◌, ℕ, ◌≤◌, Bool, true, false, cond, eqb, List, map, length, take, Some, None, Ok, Err, Option, sym, refl, ap, ◌∙◌, subst, arith, take_all}
+use Rattle.std.proofs.Common.{◌≡◌, ℕ, ◌≤◌, Bool, true, false, cond, eqb, List, map, length, take, Some, None, Ok, Err, Option, sym, refl, ap, ◌∙◌, subst, arith, take_all, find, option_map, option_and_then}
 use Rattle.std.specs.Option.{ok_or}
 use Rattle.std.proofs.lemmas.Bool.{eq-eqb, ne_eqb, eqb-true, cond-false}
 use Rattle.train.specs.Line.{Line}
@@ -11,14 +11,14 @@ use Rattle.train.proofs.Members.{all_in, some_count, one_element}
 use Rattle.train.proofs.Places.{place}
 use Rattle.train.proofs.Numbered.{numbered}
 use Rattle.train.proofs.Limits.{limits_suffice}
-use Rattle.directory.specs.Asked.{first_where, carried, position_in, place_of, number_of, network_of}
+use Rattle.directory.specs.Asked.{position_in, place_of, number_of, network_of}
 use Rattle.directory.specs.Lookups.{NetworksUndo, NodesUndo}
 use Rattle.directory.proofs.Members.{first_in, first_some, carried_some}
 use Rattle.directory.proofs.NetworksUndo.{given_by, given_there, networks_undo}
 use Rattle.directory.proofs.Readings.{line_undo}
 use Rattle.plan.specs.Places.{Exists, placed}
 use Rattle.plan.specs.Meaning.{Lawful}
-use Rattle.addressing.specs.Devices.{Device, host, node, through, device_place, device_at}
+use Rattle.addressing.specs.Devices.{Device, host, node, device_place, device_at}
 use Rattle.addressing.specs.Addressing.{no_directory, absent, in_force}
 use Rattle.addressing.specs.OwnAddresses.{HasPlace, OwnAddresses, OwnAddress}
 use Rattle.addressing.proofs.Positions.{counted_map, map_counted, position_own}
@@ -31,7 +31,7 @@ in_force_some rs o x some e =
 
 ok_some : {A : Type 0} (o : Option A) (x : A) → ok_or o absent ≡ Ok x → o ≡ Some x
 ok_some (Some y) x e = cc
-ok_some None x e = absurd (let z : ◌≡◌ {A = ℕ} 0 1 = cc in let g : ⊥ = omega arith in g)
+ok_some None x e = cc
 
 pub of_in_force : {A : Type 0} (rs : List Row) (o : Option A) (x : A) → 1 ≤ length rs → in_force rs o ≡ Ok x → o ≡ Some x
 of_in_force rs o x some e =
@@ -80,12 +80,12 @@ module _ (l : Line) (is : IsLine l) (within : Within l) where
       let eu : s.uuid ≡ u = y.3 ∙ ap (λ z. z.uuid) same ∙ sym (ap (λ q. q.0) m.2) in
       let ep : position_in (rows l) s ≡ k =
       position_own l is numbers places s y.0 j.0 y.1 y.3 y.4 ∙ ap (λ z. z.position) same ∙ sym (ap (λ q. q.1) m.2) in
-      (ap (λ o. carried (λ (q : Row). (q.uuid, position_in (rows l) q)) o) f.1 ∙ (λ t. Some (eu t, ep t)), omega (arith, sn, (fits s j.0).node.1))
+      (ap (λ o. option_map (λ (q : Row). (q.uuid, position_in (rows l) q)) o) f.1 ∙ (λ t. Some (eu t, ep t)), omega (arith, sn, (fits s j.0).node.1))
 
   -- and no other node is
   pub node_only : (n u k : ℕ) → place_of n (rows l) ≡ Some (u, k) → In (n, (u, k)) (counted 1 (map place (met (reading l))))
   node_only n u k e =
-      let f = carried_some (λ (q : Row). (q.uuid, position_in (rows l) q)) (first_where (λ (q : Row). eqb q.node n) (rows l)) (u, k) e in
+      let f = carried_some (λ (q : Row). (q.uuid, position_in (rows l) q)) (find (λ (q : Row). eqb q.node n) (rows l)) (u, k) e in
       let j = first_in (λ (q : Row). eqb q.node n) (rows l) f.0 f.1 in
       let y = numbers.row_node f.0 j.0 in
       let at = subst (λ v. In (v, y.0) (counted 1 (met (reading l)))) (eqb-true f.0.node n j.1) y.1 in
@@ -98,10 +98,10 @@ module _ (l : Line) (is : IsLine l) (within : Within l) where
       let s = given_there u c (rows l) r i eu ec in
       let q = given_by u c s.0 (rows l) s.1 in
       let one = sym q.subnet ∙ numbers.one_subnet q.giver r q.is_in i (q.uuid ∙ sym eu) (q.cn ∙ sym ec) in
-      ap (λ o. through (λ s. placed (s, h)) o) (s.1 ∙ ap Some one) ∙ placed_there (r.subnet, h) ((fits r i).subnet.1, low) ∙ ap Some (sym e)
+      ap (λ o. option_and_then (λ s. placed (s, h)) o) (s.1 ∙ ap Some one) ∙ placed_there (r.subnet, h) ((fits r i).subnet.1, low) ∙ ap Some (sym e)
   place_is (node u k) p (n, i, e) =
       let m = node_of n u k i in
-      ap (λ o. through (λ v. placed (0, v)) o) (nodes.number_back u k n m.0) ∙ placed_there (0, n) (omega arith, omega (arith, m.1)) ∙ ap Some (sym e)
+      ap (λ o. option_and_then (λ v. placed (0, v)) o) (nodes.number_back u k n m.0) ∙ placed_there (0, n) (omega arith, omega (arith, m.1)) ∙ ap Some (sym e)
 
   host_only : (u c s h : ℕ) → given u c (rows l) ≡ Some s → h ≤ 16383 → HasPlace l (host u c h) (s, h)
   host_only u c s h e low = let r = given_by u c s (rows l) e in (r.giver, r.is_in, r.uuid, r.cn, low, λ t. (sym r.subnet t, h))
@@ -118,7 +118,7 @@ module _ (l : Line) (is : IsLine l) (within : Within l) where
   at_only d p ex e = go (eqb p.0 0) refl e
     where
       go : (b : Bool) → eqb p.0 0 ≡ b
-          → cond b (carried (λ (q : ℕ × ℕ). node q.0 q.1) (place_of p.1 (rows l))) (carried (λ (q : ℕ × ℕ). host q.0 q.1 p.1) (network_of p.0 (rows l))) ≡ Some d
+          → cond b (option_map (λ (q : ℕ × ℕ). node q.0 q.1) (place_of p.1 (rows l))) (option_map (λ (q : ℕ × ℕ). host q.0 q.1 p.1) (network_of p.0 (rows l))) ≡ Some d
           → HasPlace l d p
       go true t e =
           let f = carried_some (λ (q : ℕ × ℕ). node q.0 q.1) (place_of p.1 (rows l)) d e in
@@ -138,19 +138,19 @@ module _ (l : Line) (is : IsLine l) (within : Within l) where
         let n = some_count (s.consist.uuid, k) 1 (map place (met (reading l))) (places.placed s k i low high) in
         ((0, n.0), (n.0, n.1, refl));
     gets = λ d p a has e.
-        in_force_some (rows l) (through serves (device_place (rows l) d)) a numbers.some_row (ap (λ o. through serves o) (place_is d p has) ∙ e);
+        in_force_some (rows l) (option_and_then serves (device_place (rows l) d)) a numbers.some_row (ap (λ o. option_and_then serves o) (place_is d p has) ∙ e);
     gets_only = λ d a got.
-        let t = through_some serves (device_place (rows l) d) a (of_in_force (rows l) (through serves (device_place (rows l) d)) a numbers.some_row got) in
+        let t = through_some serves (device_place (rows l) d) a (of_in_force (rows l) (option_and_then serves (device_place (rows l) d)) a numbers.some_row got) in
         (t.0, place_only d t.0 t.1, t.2);
     back_only = λ d a got.
-        let t = through_some (device_at (rows l)) (stands a) d (of_in_force (rows l) (through (device_at (rows l)) (stands a)) d numbers.some_row got) in
+        let t = through_some (device_at (rows l)) (stands a) d (of_in_force (rows l) (option_and_then (device_at (rows l)) (stands a)) d numbers.some_row got) in
         let e = laws.given t.0 a t.1 in
         (t.0, at_only d t.0 (laws.places t.0 a e) t.2, e);
     back = λ d p a has e.
-        in_force_some (rows l) (through (device_at (rows l)) (stands a)) d numbers.some_row
-        (ap (λ o. through (device_at (rows l)) o) (laws.found p a e) ∙ at_back d p (place_is d p has));
+        in_force_some (rows l) (option_and_then (device_at (rows l)) (stands a)) d numbers.some_row
+        (ap (λ o. option_and_then (device_at (rows l)) o) (laws.found p a e) ∙ at_back d p (place_is d p has));
     alone = λ d f p a has e got.
-        let t = through_some serves (device_place (rows l) f) a (of_in_force (rows l) (through serves (device_place (rows l) f)) a numbers.some_row got) in
+        let t = through_some serves (device_place (rows l) f) a (of_in_force (rows l) (option_and_then serves (device_place (rows l) f)) a numbers.some_row got) in
         let same = laws.unshared t.0 p a t.2 e in
         let mine = at_back d p (place_is d p has) in
         let theirs = at_back f p (t.1 ∙ ap Some same) in

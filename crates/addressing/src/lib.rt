@@ -4,6 +4,7 @@
 
 mod device;
 mod lookup;
+mod show;
 
 pub use device::{Device, Refused};
 pub use lookup::{address, trace};

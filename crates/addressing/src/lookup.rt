@@ -1,6 +1,6 @@
 //! From a device by its place to an address, and back.
 
-ghost use Rattle.std.specs.Prelude.{◌≡◌, not, length, ◌==◌};
+ghost use Rattle.std.specs.Prelude.{◌≡◌};
 ghost use Rattle.plan.specs.Places.{place_means, located};
 ghost use Rattle.directory.specs.Meaning.{rows_of};
 ghost use Rattle.addressing.specs.Devices.{device_means, device_told, device_place, device_at};
@@ -10,14 +10,6 @@ ghost use Rattle.addressing.specs.OwnAddresses.{OwnAddress};
 use crate::device::{Device, Refused};
 use directory::Directory;
 use plan::{Place, Plan};
-
-/// Whether the directory counts a row.
-fn is_in_force(directory: &Directory) -> bool
-    ensures answer { result ≡ not (length (rows_of directory.now) == 0) }
-    ensures own { OwnAddress }
-{
-    directory.row_count() != 0
-}
 
 /// The place of a device that the directory has.
 fn place_of(directory: &Directory, device: Device) -> Option<Place>
@@ -46,10 +38,8 @@ fn device_at(directory: &Directory, place: Place) -> Option<Device>
     let (subnet, host) = (place.subnet(), place.host());
     if subnet == 0 {
         // A node's number has 8 bits.
-        if host > 255 {
-            return None;
-        }
-        let (uuid, position) = directory.node(host as u8)?;
+        let number = u8::try_from(host).ok()?;
+        let (uuid, position) = directory.node(number)?;
         Some(Device::Node { uuid, position })
     } else {
         let (uuid, network) = directory.network(subnet)?;
@@ -62,16 +52,15 @@ fn device_at(directory: &Directory, place: Place) -> Option<Device>
 }
 
 /// The address that the plan gives to the place of a device.
+#[tactic(auto, using(crate::proofs::OwnAddresses::own_address))]
 pub fn address<P: Plan>(directory: &Directory, plan: &P, device: Device) -> Result<u32, Refused>
-    ensures answer { address_told result ≡ addressed (P.serves plan.now) (rows_of directory.now) (device_means device) }
+    ensures answer { address_told result ≡ addressed (P.means plan.now).serves (rows_of directory.now) (device_means device) }
     ensures own { OwnAddress }
 {
-    if !is_in_force(directory) {
+    if !directory.is_in_force() {
         return Err(Refused::NoDirectory);
     }
-    let Some(place) = place_of(directory, device) else {
-        return Err(Refused::Absent);
-    };
+    let place = place_of(directory, device).ok_or(Refused::Absent)?;
     let Some(address) = plan.address(place) else {
         return Err(Refused::Absent);
     };
@@ -79,18 +68,16 @@ pub fn address<P: Plan>(directory: &Directory, plan: &P, device: Device) -> Resu
 }
 
 /// The device whose place has this address.
+#[tactic(auto, using(crate::proofs::OwnAddresses::own_address))]
 pub fn trace<P: Plan>(directory: &Directory, plan: &P, address: u32) -> Result<Device, Refused>
-    ensures answer { trace_told result ≡ traced (P.stands plan.now) (rows_of directory.now) address }
+    ensures answer { trace_told result ≡ traced (P.means plan.now).stands (rows_of directory.now) address }
     ensures own { OwnAddress }
 {
-    if !is_in_force(directory) {
+    if !directory.is_in_force() {
         return Err(Refused::NoDirectory);
     }
     let Some(place) = plan.place_at(address) else {
         return Err(Refused::Absent);
     };
-    let Some(device) = device_at(directory, place) else {
-        return Err(Refused::Absent);
-    };
-    Ok(device)
+    device_at(directory, place).ok_or(Refused::Absent)
 }

@@ -7,6 +7,7 @@ use plan::{Consist, Train};
 use std::alloc::{AllocError, Global};
 
 /// Any of the three plans. A home layer holds the plan below it in a box.
+// Not plan's `Home` over a box of a plan: a box would have to be a plan, which only plan's crate may say, and it has no heap.
 #[derive(Drop)]
 pub enum AnyPlan {
     Train(Train),

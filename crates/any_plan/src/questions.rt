@@ -2,54 +2,40 @@
 
 ghost use Rattle.std.specs.Prelude.{◌≡◌};
 ghost use Rattle.plan.specs.Places.{place_means, located};
-ghost use Rattle.any_plan.specs.Chosen.{chosen, any_serves, any_stands};
+ghost use Rattle.any_plan.specs.Chosen.{chosen, any_means};
 ghost use Rattle.any_plan.specs.Laws.{any_lawful};
 
 use crate::any::AnyPlan;
-use plan::{Consist, Place, Plan, is_local};
+use plan::{Consist, Place, Plan};
 
 fn address_in(plan: &AnyPlan, place: Place) -> Option<u32>
-    ensures { result ≡ any_serves (chosen plan.now) (place_means place) }
+    ensures { result ≡ (any_means (chosen plan.now)).serves (place_means place) }
 {
     match plan {
         AnyPlan::Train(train) => train.address(place),
         AnyPlan::Consist(consist) => consist.address(place),
         AnyPlan::Home { subnet, below } => {
             let own = Consist { subnet: *subnet };
-            if own.owns(place) {
-                return own.address(place);
-            }
-            let address = address_in(below, place)?;
-            if is_local(address) {
-                None
-            } else {
-                Some(address)
-            }
+            own.address_over(place, address_in(below, place))
         }
     }
 }
 
 fn place_in(plan: &AnyPlan, address: u32) -> Option<Place>
-    ensures { located result ≡ any_stands (chosen plan.now) address }
+    ensures { located result ≡ (any_means (chosen plan.now)).stands address }
 {
     match plan {
         AnyPlan::Train(train) => train.place_at(address),
         AnyPlan::Consist(consist) => consist.place_at(address),
         AnyPlan::Home { subnet, below } => {
             let own = Consist { subnet: *subnet };
-            if is_local(address) {
-                return own.place_at(address);
-            }
-            let place = place_in(below, address)?;
-            if own.owns(place) { None } else { Some(place) }
+            own.place_over(address, place_in(below, address))
         }
     }
 }
 
 impl Plan for AnyPlan {
-    ghost serves = { λ plan. any_serves (chosen plan) };
-
-    ghost stands = { λ plan. any_stands (chosen plan) };
+    ghost means = { λ plan. any_means (chosen plan) };
 
     ghost lawful = { λ plan. any_lawful (chosen plan) };
 

@@ -4,25 +4,18 @@ use crate::any::AnyPlan;
 use plan::{Consist, Train};
 use std::fmt;
 
-fn show<W: fmt::Write>(plan: &AnyPlan, f: &mut fmt::Formatter<W>) -> fmt::Result {
-    match plan {
-        AnyPlan::Train(train) => {
-            let Train { backbone } = *train;
-            write!(f, "train {backbone}")
-        }
-        AnyPlan::Consist(consist) => {
-            let Consist { subnet } = *consist;
-            write!(f, "consist {subnet}")
-        }
-        AnyPlan::Home { subnet, below } => {
-            write!(f, "home {subnet} ")?;
-            show(below, f)
-        }
-    }
-}
-
 impl fmt::Display for AnyPlan {
     fn fmt<W: fmt::Write>(&self, f: &mut fmt::Formatter<W>) -> fmt::Result {
-        show(self, f)
+        match self {
+            AnyPlan::Train(train) => {
+                let Train { backbone } = *train;
+                write!(f, "train {backbone}")
+            }
+            AnyPlan::Consist(consist) => {
+                let Consist { subnet } = *consist;
+                write!(f, "consist {subnet}")
+            }
+            AnyPlan::Home { subnet, below } => write!(f, "home {subnet} {below}"),
+        }
     }
 }

@@ -1,6 +1,7 @@
 -- The consist plan of subnet s, and the local range that its addresses are in. Assumes nothing.
 use Rattle.std.specs.Prelude.{◌≡◌, ℕ, ◌+◌, ◌-◌, ◌≤◌, Bool, cond, ◌&&◌, Some, None, Option, ◌==◌, nat_le}
 use Rattle.plan.specs.Places.{usable}
+use Rattle.plan.specs.Meaning.{Meaning}
 
 -- it serves place p at address a
 pub record ConsistServes (s : ℕ) (p : ℕ × ℕ) (a : ℕ) : Type 0 where
@@ -26,3 +27,6 @@ abbrev pub consist_stands : ℕ → ℕ → Option (ℕ × ℕ)
 consist_stands s a =
     let p : ℕ × ℕ = (s, a - 0x0a00_0000) in
     cond (is_local a && is_own s p && usable p) (Some p) None
+
+abbrev pub consist_means : ℕ → Meaning
+consist_means s = record { serves = consist_serves s; stands = consist_stands s }

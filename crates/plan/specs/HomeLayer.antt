@@ -1,5 +1,6 @@
 -- The home layer of subnet s over a plan of which `below` says what it answers. Assumes nothing.
 use Rattle.std.specs.Prelude.{◌≡◌, ℕ, ◌≤◌, cond, ◌⊎◌, Some, None, Option}
+use Rattle.plan.specs.Meaning.{Meaning}
 use Rattle.plan.specs.ConsistPlan.{is_local, is_own, consist_serves, consist_stands, ConsistServes}
 
 abbrev pub Own : ℕ → ℕ × ℕ → Type 0
@@ -30,3 +31,6 @@ home_serves s below p = cond (is_own s p) (consist_serves s p) (unless_local (be
 
 abbrev pub home_stands : ℕ → (ℕ → Option (ℕ × ℕ)) → ℕ → Option (ℕ × ℕ)
 home_stands s below a = cond (is_local a) (consist_stands s a) (unless_own s (below a))
+
+abbrev pub home_means : ℕ → Meaning → Meaning
+home_means s below = record { serves = home_serves s below.serves; stands = home_stands s below.stands }

@@ -2,6 +2,11 @@
 use Rattle.std.specs.Prelude.{◌≡◌, ℕ, ◌^◌, ◌<◌, Some, Option}
 use Rattle.plan.specs.Places.{Exists}
 
+-- what a plan means: the address of each place that it serves, and the place that stands at each address
+pub record Meaning : Type 0 where
+  pub serves : ℕ × ℕ → Option ℕ
+  pub stands : ℕ → Option (ℕ × ℕ)
+
 -- a plan serves places, each at an address, and has a place stand at an address
 pub record Lawful (serves : ℕ × ℕ → Option ℕ) (stands : ℕ → Option (ℕ × ℕ)) : Type 0 where
   -- only places are served

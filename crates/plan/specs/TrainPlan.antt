@@ -1,6 +1,7 @@
 -- The train plan of backbone b. Assumes nothing.
 use Rattle.std.specs.Prelude.{◌≡◌, ℕ, ◌+◌, ◌-◌, ◌*◌, ◌/◌, ◌%◌, ◌≤◌, cond, ◌&&◌, Some, None, Option, nat_le, nat_lt}
 use Rattle.plan.specs.Places.{usable}
+use Rattle.plan.specs.Meaning.{Meaning}
 
 -- it serves place p at address a
 pub record TrainServes (b : ℕ) (p : ℕ × ℕ) (a : ℕ) : Type 0 where
@@ -26,3 +27,6 @@ train_stands b a =
     cond (nat_le b 3 && nat_le (start b) a && nat_lt (a - start b) 1048576 && usable (place_in (a - start b)))
     (Some (place_in (a - start b)))
     None
+
+abbrev pub train_means : ℕ → Meaning
+train_means b = record { serves = train_serves b; stands = train_stands b }

@@ -3,7 +3,7 @@
 ghost use Rattle.std.specs.Prelude.{◌≡◌};
 ghost use Rattle.plan.specs.Places.{place_means, located};
 ghost use Rattle.plan.specs.Meaning.{Exactly};
-ghost use Rattle.plan.specs.ConsistPlan.{is_local, is_own, consist_serves, consist_stands, ConsistServes};
+ghost use Rattle.plan.specs.ConsistPlan.{is_local, is_own, consist_serves, consist_stands, consist_means, ConsistServes};
 ghost use Rattle.std.proofs.Common.{rules};
 
 use crate::place::Place;
@@ -19,7 +19,7 @@ const LOCAL_LAST: u32 = 0x0a00_3fff;
 pub fn is_local(address: u32) -> bool
     ensures { result ≡ is_local address }
 {
-    LOCAL <= address && address <= LOCAL_LAST
+    (LOCAL..=LOCAL_LAST).contains(&address)
 }
 
 /// The consist plan of subnet 1 to 63; of another it serves nothing.
@@ -33,14 +33,12 @@ impl Consist {
     pub fn owns(self, place: Place) -> bool
         ensures { result ≡ is_own self.subnet (place_means place) }
     {
-        1 <= self.subnet && self.subnet <= 63 && place.subnet() == self.subnet
+        (1..=63).contains(&self.subnet) && place.subnet() == self.subnet
     }
 }
 
 impl Plan for Consist {
-    ghost serves = { λ plan. consist_serves plan.subnet };
-
-    ghost stands = { λ plan. consist_stands plan.subnet };
+    ghost means = { λ plan. consist_means plan.subnet };
 
     ghost lawful = { Prim.search rules };
 
@@ -49,11 +47,7 @@ impl Plan for Consist {
         ensures kept { self.exit.now ≡ self.entry.now }
         ensures said { Exactly (ConsistServes self.now.subnet (place_means place)) result }
     {
-        if self.owns(place) && place.is_usable() {
-            Some(LOCAL + u32::from(place.host()))
-        } else {
-            None
-        }
+        (self.owns(place) && place.is_usable()).then_some(LOCAL + u32::from(place.host()))
     }
 
     fn place_at(&self, address: u32) -> Option<Place>
@@ -65,10 +59,6 @@ impl Plan for Consist {
             return None;
         }
         let place = Place::new(self.subnet, (address - LOCAL) as u16)?;
-        if self.owns(place) && place.is_usable() {
-            Some(place)
-        } else {
-            None
-        }
+        (self.owns(place) && place.is_usable()).then_some(place)
     }
 }

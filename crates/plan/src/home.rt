@@ -3,12 +3,36 @@
 ghost use Rattle.std.specs.Prelude.{◌≡◌, Some};
 ghost use Rattle.plan.specs.Places.{place_means, located};
 ghost use Rattle.plan.specs.Meaning.{Exactly};
-ghost use Rattle.plan.specs.HomeLayer.{home_serves, home_stands, HomeServes};
+ghost use Rattle.plan.specs.HomeLayer.{home_serves, home_stands, home_means, HomeServes};
 ghost use Rattle.plan.specs.HomeLayerLemmas.{home_lawful};
 
 use crate::consist::{Consist, is_local};
 use crate::place::Place;
 use crate::plan::Plan;
+
+impl Consist {
+    /// The address of a place in a home layer, where the plan below it gives the place this address.
+    pub fn address_over(self, place: Place, below: Option<u32>) -> Option<u32>
+        ensures { result ≡ home_serves self.subnet (λ _. below) (place_means place) }
+    {
+        if self.owns(place) {
+            self.address(place)
+        } else {
+            below.filter(|address| !is_local(*address))
+        }
+    }
+
+    /// The place at an address in a home layer, where the plan below it has this place there.
+    pub fn place_over(self, address: u32, below: Option<Place>) -> Option<Place>
+        ensures { located result ≡ home_stands self.subnet (λ _. located below) address }
+    {
+        if is_local(address) {
+            self.place_at(address)
+        } else {
+            below.filter(|place| !self.owns(*place))
+        }
+    }
+}
 
 /// Subnet 1 to 63 is as in its consist plan, every other place as in the plan below, outside the local range.
 #[derive(Clone, Copy)]
@@ -17,44 +41,34 @@ pub struct Home<P> {
     pub below: P,
 }
 
-impl<P: Plan> Plan for Home<P> {
-    ghost serves = { λ plan. home_serves plan.subnet (P.Plan.serves plan.below) };
+impl<P> Home<P> {
+    fn own(&self) -> Consist
+        ensures { result.subnet ≡ self.now.subnet }
+    {
+        Consist {
+            subnet: self.subnet,
+        }
+    }
+}
 
-    ghost stands = { λ plan. home_stands plan.subnet (P.Plan.stands plan.below) };
+impl<P: Plan> Plan for Home<P> {
+    ghost means = { λ plan. home_means plan.subnet (P.Plan.means plan.below) };
 
     ghost lawful = { λ plan. home_lawful plan.subnet _ _ (P.Plan.lawful plan.below) };
 
     fn address(&self, place: Place) -> Option<u32>
-        ensures answer { result ≡ home_serves self.now.subnet (P.Plan.serves self.now.below) (place_means place) }
+        ensures answer { result ≡ home_serves self.now.subnet (P.Plan.means self.now.below).serves (place_means place) }
         ensures kept { self.exit.now ≡ self.entry.now }
-        ensures said { Exactly (HomeServes self.now.subnet (λ p a. P.Plan.serves self.now.below p ≡ Some a) (place_means place)) result }
+        ensures said { Exactly (HomeServes self.now.subnet (λ p a. (P.Plan.means self.now.below).serves p ≡ Some a) (place_means place)) result }
     {
-        let own = Consist {
-            subnet: self.subnet,
-        };
-        if own.owns(place) {
-            return own.address(place);
-        }
-        let address = self.below.address(place)?;
-        if is_local(address) {
-            None
-        } else {
-            Some(address)
-        }
+        self.own().address_over(place, self.below.address(place))
     }
 
     fn place_at(&self, address: u32) -> Option<Place>
-        ensures answer { located result ≡ home_stands self.now.subnet (P.Plan.stands self.now.below) address }
+        ensures answer { located result ≡ home_stands self.now.subnet (P.Plan.means self.now.below).stands address }
         ensures kept { self.exit.now ≡ self.entry.now }
-        ensures said { Exactly (λ p. HomeServes self.now.subnet (λ q a. P.Plan.serves self.now.below q ≡ Some a) p address) (located result) }
+        ensures said { Exactly (λ p. HomeServes self.now.subnet (λ q a. (P.Plan.means self.now.below).serves q ≡ Some a) p address) (located result) }
     {
-        let own = Consist {
-            subnet: self.subnet,
-        };
-        if is_local(address) {
-            return own.place_at(address);
-        }
-        let place = self.below.place_at(address)?;
-        if own.owns(place) { None } else { Some(place) }
+        self.own().place_over(address, self.below.place_at(address))
     }
 }

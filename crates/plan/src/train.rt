@@ -3,7 +3,7 @@
 ghost use Rattle.std.specs.Prelude.{◌≡◌};
 ghost use Rattle.plan.specs.Places.{place_means, located};
 ghost use Rattle.plan.specs.Meaning.{Exactly};
-ghost use Rattle.plan.specs.TrainPlan.{train_serves, train_stands, TrainServes};
+ghost use Rattle.plan.specs.TrainPlan.{train_serves, train_stands, train_means, TrainServes};
 ghost use Rattle.std.proofs.Common.{rules};
 
 use crate::place::Place;
@@ -23,9 +23,7 @@ pub struct Train {
 }
 
 impl Plan for Train {
-    ghost serves = { λ plan. train_serves plan.backbone };
-
-    ghost stands = { λ plan. train_stands plan.backbone };
+    ghost means = { λ plan. train_means plan.backbone };
 
     ghost lawful = { Prim.search rules };
 
@@ -54,6 +52,6 @@ impl Plan for Train {
             return None;
         }
         let place = Place::new((offset / PER_SUBNET) as u8, (offset % PER_SUBNET) as u16)?;
-        if place.is_usable() { Some(place) } else { None }
+        place.is_usable().then_some(place)
     }
 }

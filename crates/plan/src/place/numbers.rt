@@ -10,6 +10,7 @@ impl Place {
     pub fn new(subnet: u8, host: u16) -> Option<Place>
         ensures { located result ≡ placed (subnet, host) }
     {
+        // As an `if`: the closure of a `then` would need the two ranges as a clause of its own.
         if subnet <= 63 && host <= 16383 {
             Some(Place { subnet, host })
         } else {
@@ -35,6 +36,6 @@ impl Place {
     pub(crate) fn is_usable(self) -> bool
         ensures { result ≡ usable (place_means self) }
     {
-        1 <= self.host && self.host <= 16382
+        (1..=16382).contains(&self.host)
     }
 }
