@@ -1,9 +1,9 @@
 -- The steps of the loops over nodes and over consists. Assumes nothing.
-use Rattle.std.proofs.Common.{◌≡◌, ℕ, ◌+◌, ◌-◌, ◌<◌, ◌≤◌, Bool, true, false, not, ◌||◌, eqb, leb, List, [], ◌∷◌, ◌++◌, map, length, get_or, take, drop, is_some, Some, None, Ok, Err, Option, sym, refl, ap, ◌∙◌, arith}
+use Rattle.std.proofs.Common.{◌≡◌, ℕ, suc, ◌+◌, ◌-◌, ◌<◌, ◌≤◌, Bool, true, false, not, cond, ◌||◌, eqb, leb, List, [], ◌∷◌, ◌++◌, map, length, get_or, take, drop, is_some, Some, None, Ok, Err, Option, fold, count_by, filter_map, sym, refl, ap, ap₂, ◌∙◌, arith}
 use Rattle.std.specs.Option.{option_map}
-use Rattle.std.specs.List.{flat_map}
+use Rattle.std.specs.List.{flat_map, list_any, cons_option}
 use Rattle.std.proofs.lemmas.List.{at_drop_more, map_more, flat_map_more, length-take, append_assoc, append-nil}
-use Rattle.std.proofs.lemmas.Bool.{leb-true, cond_both}
+use Rattle.std.proofs.lemmas.Bool.{leb-true, le-leb, cond_both}
 use Rattle.report.specs.declared.Mac.{Mac}
 use Rattle.report.specs.Masks.{is_mask}
 use Rattle.report.specs.Reports.{whole}
@@ -45,9 +45,43 @@ pub asleep : (o : Option Mac) → false ≡ is_some o → option_map (λ m. m.0)
 asleep None e = refl
 asleep (Some m) e = cc
 
-pub awake_counts : (o : Option Mac) (ms : List ℕ) → true ≡ is_some o → length (mac_then (option_map (λ m. m.0) o) ms) ≡ 1 + length ms
-awake_counts None ms e = let z : ◌≡◌ {A = ℕ} 0 1 = cc in absurd (let n : ⊥ = omega arith in n)
-awake_counts (Some m) ms e = omega arith
+-- The searches of the code, by what the nodes and the consists mean.
+pub macs_meant : (ns : List node.Node) → macs_in (map node_means ns) ≡ map (λ m. m.0) (filter_map (λ n. n.mac) ns)
+macs_meant [] = refl
+macs_meant (n ∷ ns) = by n.mac (macs_meant ns)
+  where
+    by : (o : Option Mac) → macs_in (map node_means ns) ≡ map (λ m. m.0) (filter_map (λ n. n.mac) ns)
+        → mac_then (option_map (λ m. m.0) o) (macs_in (map node_means ns)) ≡ map (λ m. m.0) (cons_option o (filter_map (λ n. n.mac) ns))
+    by None e = e
+    by (Some m) e = ap (λ ms. m.0 ∷ ms) e
+
+pub any_awake : (ns : List node.Node) → list_any (λ n. is_some n.mac) ns ≡ leb 1 (length (macs_in (map node_means ns)))
+any_awake [] = refl
+any_awake (n ∷ ns) = by n.mac (any_awake ns)
+  where
+    by : (o : Option Mac) → list_any (λ n. is_some n.mac) ns ≡ leb 1 (length (macs_in (map node_means ns)))
+        → (is_some o || list_any (λ n. is_some n.mac) ns) ≡ leb 1 (length (mac_then (option_map (λ m. m.0) o) (macs_in (map node_means ns))))
+    by None e = e
+    by (Some m) e = sym (le-leb 1 (suc (length (macs_in (map node_means ns)))) (omega arith))
+
+one_more : (o : Option Mac) (ms : List ℕ) → cond (is_some o) 1 0 + length ms ≡ length (mac_then (option_map (λ m. m.0) o) ms)
+one_more None ms = omega arith
+one_more (Some m) ms = omega arith
+
+counted : (k : ℕ) (ns : List node.Node) → fold (λ k n. k + cond (is_some n.mac) 1 0) k ns ≡ k + length (macs_in (map node_means ns))
+counted k [] = omega arith
+counted k (n ∷ ns) =
+    counted (k + cond (is_some n.mac) 1 0) ns ∙ omega (arith, one_more n.mac (macs_in (map node_means ns)))
+
+pub count_awake : (ns : List node.Node) → count_by (λ n. is_some n.mac) ns ≡ length (macs_in (map node_means ns))
+count_awake ns = counted 0 ns ∙ omega arith
+
+among_map : (x : ℕ) (ms : List Mac) → list_any (λ m. eqb x m.0) ms ≡ among x (map (λ m. m.0) ms)
+among_map x [] = refl
+among_map x (m ∷ ms) = ap (λ b. eqb x m.0 || b) (among_map x ms)
+
+pub in_nodes : (x : ℕ) (ns : List node.Node) → list_any (λ m. eqb x m.0) (filter_map (λ n. n.mac) ns) ≡ among x (macs_in (map node_means ns))
+in_nodes x ns = among_map x (filter_map (λ n. n.mac) ns) ∙ ap (among x) (sym (macs_meant ns))
 
 -- Over the nodes of a consist.
 module _ (ns : List node.Node) (i : ℕ) (h : i < length ns) where
@@ -139,15 +173,6 @@ module _ (cs : List consist.Consist) (k : ℕ) (h : k < length cs) where
       at_drop_more (λ xs. consists_fault k (described xs)) cs k no_consist h
       ∙ ap (λ o. or_else (option_map (λ f. record { place = k; rule = f }) o) (consists_fault (k + 1) (described (drop (k + 1) cs)))) (told_some _ f e)
 
-  pub uuid_here : (x : ℕ) → among x (flat_map uuid_row (described (drop k cs))) ≡ (eqb x (whole (get_or cs k no_consist).uuid) || among x (flat_map uuid_row (described (drop (k + 1) cs))))
-  uuid_here x = at_drop_more (λ xs. among x (flat_map uuid_row (described xs))) cs k no_consist h
-
-  pub mac_here : (x : ℕ) → among x (flat_map mac_row (described (drop k cs)))
-      ≡ (among x (macs_in (map node_means (nodes_of (get_or cs k no_consist)))) || among x (flat_map mac_row (described (drop (k + 1) cs))))
-  mac_here x =
-      at_drop_more (λ xs. among x (flat_map mac_row (described xs))) cs k no_consist h
-      ∙ among_append x (macs_in (map node_means (nodes_of (get_or cs k no_consist)))) (flat_map mac_row (described (drop (k + 1) cs)))
-
   module _ (f : Coupled → List ℕ) where
     seen_more : flat_map f (described (take k cs)) ++ f (consist_means (get_or cs k no_consist)) ≡ flat_map f (described (take (k + 1) cs))
     seen_more = flat_map_more f [] (described (take k cs)) (consist_means (get_or cs k no_consist)) ∙ ap (flat_map f) (sym (map_more consist_means cs k no_consist h))
@@ -172,6 +197,15 @@ module _ (cs : List consist.Consist) (k : ℕ) (h : k < length cs) where
     pub twice_here : repeats (flat_map f (described (take (k - 0) cs))) (f (consist_means (get_or cs k no_consist))) ≡ true
         → twice_at k (flat_map f (described (take k cs))) (map f (described (drop k cs))) ≡ Some k
     twice_here e = at_here true e
+
+pub in_consists : (x : ℕ) (cs : List consist.Consist) → list_any (λ c. list_any (λ m. eqb x m.0) (filter_map (λ n. n.mac) (nodes_of c))) cs ≡ among x (flat_map mac_row (described cs))
+in_consists x [] = refl
+in_consists x (c ∷ cs) =
+    ap₂ ◌||◌ (in_nodes x (nodes_of c)) (in_consists x cs) ∙ sym (among_append x (macs_in (map node_means (nodes_of c))) (flat_map mac_row (described cs)))
+
+pub has_uuid : (u : ℕ) (cs : List consist.Consist) → list_any (λ c. eqb u (whole c.uuid)) cs ≡ among u (flat_map uuid_row (described cs))
+has_uuid u [] = refl
+has_uuid u (c ∷ cs) = ap (λ b. eqb u (whole c.uuid) || b) (has_uuid u cs)
 
 pub once : (x : ℕ) (seen : List ℕ) (b : Bool) → b ≡ among x seen → repeats seen (x ∷ []) ≡ b
 once x seen b e = or_false (among x seen) ∙ sym e

@@ -1,5 +1,5 @@
 -- The nodes that the reading of a line meets, and its directory. Assumes nothing.
-use Rattle.std.specs.Prelude.{◌≡◌, ℕ, ◌+◌, List, [], ◌++◌, map, length, take, Some, None, Ok, Err, Result}
+use Rattle.std.specs.Prelude.{ℕ, List, [], map, Some, None, Ok, Err, Result}
 use Rattle.train.specs.Line.{forward, Node, Coupled, Line}
 use Rattle.train.specs.Rows.{Met, Row, rows}
 use Rattle.directory.specs.declared.directory.Directory.{Directory}
@@ -22,10 +22,6 @@ met_of s = map (as_met s) (standing s)
 
 abbrev pub nodes_mean : List MetNode → List Met
 nodes_mean ns = map met_means ns
-
--- the nodes of a consist in an array, from place `at` on
-pub record Laid (s : Coupled) (at : ℕ) (before after : List MetNode) : Type 0 where
-  pub front : nodes_mean (take (at + length (standing s)) after) ≡ nodes_mean (take at before) ++ met_of s
 
 -- the directory of a line, or why there is none
 abbrev pub directory_answer : Line → Result (List Row) LineFault

@@ -5,7 +5,7 @@ use Rattle.report.specs.Reading.{padded}
 use Rattle.report.specs.Reports.{Report}
 use Rattle.train.specs.Line.{Coupled, Line}
 use Rattle.train.specs.Truth.{awake_of, true_reports}
-use Rattle.composition.specs.declared.reports.Short.{Short}
+use Rattle.directory.specs.declared.bytes.Short.{Short}
 use Rattle.composition.specs.Standing.{last_mac, reports_between}
 
 -- the report of the code with these values: the mask places past the consist's nodes are 0

@@ -7,7 +7,9 @@ ghost use Rattle.composition.specs.Meaning.{masks_of, nodes_of, consist_means, p
 ghost use Rattle.composition.specs.Standing.{standing, nobody};
 
 use directory::Way;
+use report::mask::together;
 use report::{Mac, Uuid};
+use std::array;
 
 /// A backbone node: bit `i - 1` of its mask says that it serves network `i`; awake, it has a MAC.
 #[derive(Clone, Copy)]
@@ -16,7 +18,8 @@ pub struct Node {
     pub mac: Option<Mac>,
 }
 
-/// A consist of 1 to 4 nodes, from its end 1; places past `count` are not looked at.
+/// A consist of 1 to 4 nodes, from its end 1; places past `count` are not looked at. A count that is out of range can be
+/// described, and is refused: so it stands beside the places.
 #[derive(Clone, Copy)]
 pub struct Consist {
     pub uuid: Uuid,
@@ -57,20 +60,14 @@ impl Consist {
         ensures { result ≡ padded (masks_of (nodes_of self.now)) }
     {
         let nodes = self.nodes();
-        [
-            mask_at(nodes, 0),
-            mask_at(nodes, 1),
-            mask_at(nodes, 2),
-            mask_at(nodes, 3),
-        ]
+        array::from_fn(|i| mask_at(nodes, i))
     }
 
     /// The networks that its nodes serve together.
     pub(crate) fn served(&self) -> u8
         ensures { result ≡ together (masks_of (nodes_of self.now)) }
     {
-        let [a, b, c, d] = self.masks();
-        a | (b | (c | d))
+        together(&self.masks())
     }
 
     /// The node that is met at this step from the left.

@@ -44,6 +44,7 @@ pub enum LineFault {
     Bits,
 }
 
+// By hand: a derived `From` has no contract, and clauses name the error that `?` makes.
 impl From<ConsistFault> for LineFault {
     ghost from_gives = { λ f r. r ≡ InConsist f };
 

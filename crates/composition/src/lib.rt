@@ -7,6 +7,7 @@ mod fault;
 mod reading;
 mod reports;
 mod rules;
+mod show;
 
 ghost use Rattle.std.specs.Prelude.{◌≡◌, map, length, OnOk};
 ghost use Rattle.report.specs.Reports.{means};
@@ -20,10 +21,10 @@ ghost use Rattle.composition.specs.Gathering.{directory_answer, directory_told};
 
 pub use consist::{Consist, Node};
 use directory::Directory;
+pub use directory::Short;
 pub use fault::{ConsistFault, ConsistRule, LineFault};
 use reading::directory_of;
 use report::Report;
-pub use reports::Short;
 use reports::{awake_within, put_reports};
 
 /// A described train, from left to right.

@@ -1,36 +1,23 @@
 //! How a line is read: its nodes in the order in which they are met, and its directory.
+//!
+//! Not one reading with that of `inauguration`: these consists are lent and read by place, those are owned and turned in place; a
+//! trait over both kinds, with its laws, would be longer than either reading.
 
-ghost use Rattle.std.specs.Prelude.{◌≡◌, ◌+◌, ◌<◌, ◌≤◌, length, take, Ok, nat_lt, slice_index_or};
+ghost use Rattle.std.specs.Prelude.{◌≡◌, ◌+◌, ◌<◌, ◌≤◌, ◌++◌, length, Ok, nat_lt, slice_index_or};
 ghost use Rattle.std.specs.List.{flat_map};
-ghost use Rattle.train.specs.Line.{other, flip};
+ghost use Rattle.train.specs.Line.{flip};
 ghost use Rattle.train.specs.Rules.{IsLine, node_count, Within};
 ghost use Rattle.train.specs.Rows.{left, reading};
 ghost use Rattle.train.specs.Theorems.{OneDirectory, Numbered, LimitsSuffice};
 ghost use Rattle.directory.specs.Meaning.{way_means, rows_of};
 ghost use Rattle.composition.specs.Meaning.{nodes_of, consist_means, described};
-ghost use Rattle.composition.specs.Gathering.{nowhere, met_of, nodes_mean, Laid, directory_answer};
+ghost use Rattle.composition.specs.Gathering.{nowhere, met_of, nodes_mean, directory_answer};
+ghost use Rattle.arrayvec.specs.ArrayVec.{array_vec_len};
 
 use crate::Consist;
+use arrayvec::ArrayVec;
+use directory::limits::NODES;
 use directory::{Directory, MetNode, Way};
-use keyed::Key;
-use report::Uuid;
-use std::cmp::Ordering;
-
-/// The most nodes of a line within the limits.
-const NODES: usize = 63;
-
-const NOBODY: MetNode = MetNode {
-    uuid: Uuid { high: 0, low: 0 },
-    mask: 0,
-    way: Way::Forward,
-};
-
-/// The first nodes of an array.
-#[derive(Clone, Copy)]
-struct MetNodes {
-    nodes: [MetNode; NODES],
-    count: usize,
-}
 
 /// Whether the outermost consist at the left end has the smaller UUID.
 fn is_left_first(consists: &[Consist]) -> bool
@@ -38,19 +25,7 @@ fn is_left_first(consists: &[Consist]) -> bool
     ensures { result ≡ nat_lt (left (described consists.now)) (left (flip (described consists.now))) }
 {
     let last = consists.len() - 1;
-    match consists[0].uuid.compare(&consists[last].uuid) {
-        Ordering::Less => true,
-        _ => false,
-    }
-}
-
-fn other(way: Way) -> Way
-    ensures { way_means result ≡ other (way_means way) }
-{
-    match way {
-        Way::Forward => Way::Turned,
-        Way::Turned => Way::Forward,
-    }
+    consists[0].uuid.is_less(consists[last].uuid)
 }
 
 /// The consist that the reading meets at a place, the way it stands there.
@@ -70,39 +45,36 @@ fn read_at(consists: &[Consist], place: usize) -> Consist
     }
     let consist = consists[last - place];
     Consist {
-        way: other(consist.way),
+        way: consist.way.other(),
         ..consist
     }
 }
 
-/// Lays the nodes of a consist into an array, from a place on, as they are met from the left.
-fn put_nodes(consist: &Consist, at: usize, nodes: &mut [MetNode])
-    requires { at + length (nodes_of consist.now) ≤ length nodes.old }
-    ensures { Laid (consist_means consist.now) at nodes.old nodes.new }
+/// Appends the nodes of a consist as they are met from the left.
+fn put_nodes(consist: &Consist, nodes: &mut ArrayVec<MetNode, NODES>)
+    requires { array_vec_len nodes.old + length (nodes_of consist.now) ≤ 63 }
+    ensures met { nodes_mean nodes.new.items ≡ nodes_mean nodes.old.items ++ met_of (consist_means consist.now) }
+    ensures len { array_vec_len nodes.new ≡ array_vec_len nodes.old + length (nodes_of consist.now) }
 {
     for step in 0..consist.nodes().len() {
-        nodes[at + step] = MetNode {
+        nodes.push(MetNode {
             uuid: consist.uuid,
             mask: consist.met(step).node.mask,
             way: consist.way,
-        };
+        });
     }
 }
 
 /// The nodes of a line within the limits, in the order of its reading.
-fn met_nodes(consists: &[Consist]) -> MetNodes
+fn met_nodes(consists: &[Consist]) -> ArrayVec<MetNode, NODES>
     requires { node_count (described consists.now) ≤ 63 }
-    ensures few { result.count ≤ 63 }
-    ensures met { nodes_mean (take result.count result.nodes) ≡ flat_map met_of (reading (described consists.now)) }
+    ensures { nodes_mean result.items ≡ flat_map met_of (reading (described consists.now)) }
 {
-    let mut nodes = [NOBODY; NODES];
-    let mut count = 0;
+    let mut nodes = ArrayVec::new();
     for place in 0..consists.len() {
-        let consist = read_at(consists, place);
-        put_nodes(&consist, count, &mut nodes);
-        count += consist.nodes().len();
+        put_nodes(&read_at(consists, place), &mut nodes);
     }
-    MetNodes { nodes, count }
+    nodes
 }
 
 /// The directory of a line within the limits.
@@ -113,6 +85,5 @@ pub(crate) fn directory_of(consists: &[Consist]) -> Directory
     ensures numbered { Numbered }
     ensures limits { LimitsSuffice }
 {
-    let met = met_nodes(consists);
-    Directory::of(&met.nodes[0..met.count])
+    Directory::of(met_nodes(consists).as_slice())
 }

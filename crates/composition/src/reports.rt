@@ -1,6 +1,6 @@
 //! The true reports of the awake nodes, written from left to right.
 
-ghost use Rattle.std.specs.Prelude.{◌≡◌, ◌+◌, ◌≤◌, map, length, drop};
+ghost use Rattle.std.specs.Prelude.{◌≡◌, ◌+◌, ◌≤◌, map, length, drop, count_by, is_some};
 ghost use Rattle.std.specs.Option.{option_map};
 ghost use Rattle.report.specs.Reports.{means};
 ghost use Rattle.train.specs.Truth.{awake_of, awake, first_mac, facing, report, true_reports};
@@ -12,12 +12,8 @@ ghost use Rattle.composition.specs.Standing.{standing, awake_node, awake_in, fir
 ghost use Rattle.composition.specs.Sending.{coded, sent, sent_answer, sent_leaves, Put};
 
 use crate::{Consist, Node};
-use directory::Way;
+use directory::{Short, Way};
 use report::{Mac, Report, Uuid};
-
-/// The reports do not fit the buffer.
-#[derive(Clone, Copy, PartialEq, Eq, Debug)]
-pub struct Short;
 
 /// The MAC of the first awake node of a consist from a step on, as it is met from the left.
 fn next_awake(consist: &Consist, step: usize) -> Option<Mac>
@@ -45,25 +41,37 @@ fn first_mac(consists: &[Consist]) -> Mac
     Mac(0)
 }
 
-/// Which of two neighbours, to the left and to the right, is on side 1.
-fn facing(way: Way, left: Mac, right: Mac) -> Mac
-    ensures { result.0 ≡ facing (way_means way) left.0 right.0 }
-{
-    match way {
-        Way::Forward => left,
-        Way::Turned => right,
+/// The next awake nodes to the left and to the right, 0 for none.
+#[derive(Clone, Copy)]
+struct Neighbours {
+    left: Mac,
+    right: Mac,
+}
+
+impl Neighbours {
+    /// Which are on side 1 and on side 2 of a node that stands so.
+    fn sides(self, way: Way) -> (Mac, Mac)
+        ensures side1 { result.0.0 ≡ facing (way_means way) self.left.0 self.right.0 }
+        ensures side2 { result.1.0 ≡ facing (way_means way) self.right.0 self.left.0 }
+    {
+        match way {
+            Way::Forward => (self.left, self.right),
+            Way::Turned => (self.right, self.left),
+        }
     }
 }
 
-/// The report of an awake node between its neighbours to the left and to the right.
-fn report_of(consist: &Consist, position: u8, mac: Mac, left: Mac, right: Mac) -> Report
-    ensures { result ≡ coded (report left.0 (awake_node (consist_means consist.now) position mac.0) right.0) }
+/// The report of an awake node between its neighbours.
+fn report_of(consist: &Consist, position: u8, mac: Mac, between: Neighbours) -> Report
+    ensures { result ≡ coded (report between.left.0 (awake_node (consist_means consist.now) position mac.0) between.right.0) }
 {
+    let (side1, side2) = between.sides(consist.way);
+    // Each half is read, and so known to fit 64 bits: of a copy of the whole UUID the proof would not know that.
     let (high, low) = (consist.uuid.high, consist.uuid.low);
     Report {
         mac,
-        side1: facing(consist.way, left, right),
-        side2: facing(consist.way, right, left),
+        side1,
+        side2,
         uuid: Uuid { high, low },
         position,
         nodes: consist.nodes().len() as u8,
@@ -72,23 +80,25 @@ fn report_of(consist: &Consist, position: u8, mac: Mac, left: Mac, right: Mac) -
 }
 
 /// Writes the reports of a consist from a place on, between its neighbours; gives the place behind them and the last MAC.
+/// Nodes awake from `filter_map`, zipped with the places, would be no plainer: the last MAC passes from node to node, and the
+/// place behind is wanted too.
 fn put_consist(
     consist: &Consist,
-    left: Mac,
-    after: Mac,
+    between: Neighbours,
     at: usize,
     out: &mut [Report],
 ) -> (usize, Mac)
     requires { at + length (awake_of (consist_means consist.now)) ≤ length out.old }
-    ensures { Put (consist_means consist.now) left.0 after.0 at out.old result.0 result.1.0 out.new }
+    ensures { Put (consist_means consist.now) between.left.0 between.right.0 at out.old result.0 result.1.0 out.new }
 {
     let mut end = at;
-    let mut last = left;
+    let mut last = between.left;
     for step in 0..consist.nodes().len() {
         let placed = consist.met(step);
         if let Some(mac) = placed.node.mac {
-            let right = next_awake(consist, step + 1).unwrap_or(after);
-            out[end] = report_of(consist, placed.position, mac, last, right);
+            let right = next_awake(consist, step + 1).unwrap_or(between.right);
+            let own = Neighbours { left: last, right };
+            out[end] = report_of(consist, placed.position, mac, own);
             end += 1;
             last = mac;
         }
@@ -104,24 +114,17 @@ pub(crate) fn put_reports(consists: &[Consist], out: &mut [Report])
     let mut at = 0;
     let mut left = Mac(0);
     for (i, consist) in consists.iter().enumerate() {
-        let after = first_mac(&consists[i + 1..consists.len()]);
-        let (end, last) = put_consist(consist, left, after, at, out);
+        let right = first_mac(&consists[i + 1..consists.len()]);
+        let (end, last) = put_consist(consist, Neighbours { left, right }, at, out);
         at = end;
         left = last;
     }
 }
 
 fn count_awake(nodes: &[Node]) -> usize
-    requires { length nodes.now ≤ 4 }
-    ensures { result ≡ length (macs_in (map node_means nodes.now)) }
+    ensures { result ≡ count_by (λ n. is_some n.mac) nodes.now }
 {
-    let mut count = 0;
-    for node in nodes {
-        if node.mac.is_some() {
-            count += 1;
-        }
-    }
-    count
+    nodes.iter().filter(|node| node.mac.is_some()).count()
 }
 
 /// How many nodes are awake, if there is room for so many reports.

@@ -1,33 +1,24 @@
 //! The rules on lines, looked at in their order.
 
-ghost use Rattle.std.specs.Prelude.{◌≡◌, ◌≤◌, ◌&&◌, map, length, nat_le};
+ghost use Rattle.std.specs.Prelude.{◌≡◌, ◌==◌, map, is_some, filter_map};
 ghost use Rattle.std.specs.Option.{option_map};
-ghost use Rattle.std.specs.List.{flat_map};
-ghost use Rattle.report.specs.Masks.{together, unbroken};
-ghost use Rattle.report.specs.Reports.{whole, is_mac, is_uuid};
-ghost use Rattle.train.specs.Rules.{set_bits};
-ghost use Rattle.composition.specs.Meaning.{node_means, masks_of, consist_means, described};
-ghost use Rattle.composition.specs.Faults.{told, mask_fault, mac_fits, mac_fault, macs_in, consist_fault, consists_fault, among, repeats, uuid_row, mac_row, uuid_fault, mac_twice_fault, limit_fault, line_fault};
+ghost use Rattle.std.specs.List.{flat_map, list_any};
+ghost use Rattle.report.specs.Reports.{whole};
+ghost use Rattle.composition.specs.Meaning.{node_means, nodes_of, consist_means, described};
+ghost use Rattle.composition.specs.Faults.{told, mask_fault, mac_fits, mac_fault, macs_in, consist_fault, consists_fault, repeats, mac_row, uuid_fault, mac_twice_fault, limit_fault, line_fault};
 ghost use Rattle.composition.specs.Exact.{Exactly};
 
 use crate::{Consist, ConsistFault, ConsistRule, LineFault, Node};
-use keyed::Key;
+use directory::limits::{BITS, NETWORKS, NODES};
+use report::mask::{bit_count, is_gapless, network_count};
 use report::{Mac, Uuid};
-use std::cmp::Ordering;
-
-fn is_uuid(uuid: Uuid) -> bool
-    ensures { result ≡ is_uuid (whole uuid) }
-{
-    let Uuid { high, low } = uuid;
-    high != 0 || low != 0
-}
 
 /// Whether a node is asleep or has a MAC in its range.
 fn is_mac(mac: Option<Mac>) -> bool
     ensures { result ≡ mac_fits (option_map (λ m. m.0) mac) }
 {
     match mac {
-        Some(mac) => mac.0 != 0 && mac.0 < 1 << 48,
+        Some(mac) => mac.is_valid(),
         None => true,
     }
 }
@@ -44,7 +35,8 @@ fn check_masks(nodes: &[Node]) -> Result<(), ConsistRule>
     Ok(())
 }
 
-/// Whether every MAC is in its range; else which is not.
+/// Whether every MAC is in its range; else which is not. Not one function with the masks: a test and a rule handed in would
+/// need a contract longer than both loops.
 fn check_mac_ranges(nodes: &[Node]) -> Result<(), ConsistRule>
     ensures { result ≡ told (mac_fault 1 (map node_means nodes.now)) }
 {
@@ -56,23 +48,10 @@ fn check_mac_ranges(nodes: &[Node]) -> Result<(), ConsistRule>
     Ok(())
 }
 
-fn is_gapless(mask: u8) -> bool
-    ensures { result ≡ unbroken mask }
-{
-    let all = u16::from(mask);
-    // One more carries through the low bits that are set, and leaves any above them.
-    all & (all + 1) == 0
-}
-
 fn is_any_awake(nodes: &[Node]) -> bool
-    ensures { result ≡ nat_le 1 (length (macs_in (map node_means nodes.now))) }
+    ensures { result ≡ list_any (λ n. is_some n.mac) nodes.now }
 {
-    for node in nodes {
-        if node.mac.is_some() {
-            return true;
-        }
-    }
-    false
+    nodes.iter().any(|node| node.mac.is_some())
 }
 
 impl Consist {
@@ -80,7 +59,7 @@ impl Consist {
     fn check(&self) -> Result<(), ConsistRule>
         ensures { result ≡ told (consist_fault (consist_means self.now).consist) }
     {
-        if !is_uuid(self.uuid) {
+        if !self.uuid.is_valid() {
             return Err(ConsistRule::NoUuid);
         }
         let nodes = self.nodes();
@@ -111,14 +90,9 @@ fn check_consists(consists: &[Consist]) -> Result<(), ConsistFault>
 }
 
 fn has_uuid(consists: &[Consist], uuid: Uuid) -> bool
-    ensures { result ≡ among (whole uuid) (flat_map uuid_row (described consists.now)) }
+    ensures { result ≡ list_any (λ c. whole uuid == whole c.uuid) consists.now }
 {
-    for consist in consists {
-        if let Ordering::Equal = consist.uuid.compare(&uuid) {
-            return true;
-        }
-    }
-    false
+    consists.iter().any(|consist| uuid.is_same(consist.uuid))
 }
 
 /// Whether UUIDs differ; else the place of the first that stands before it.
@@ -134,27 +108,20 @@ fn check_uuids(consists: &[Consist]) -> Result<(), LineFault>
 }
 
 fn is_in_nodes(nodes: &[Node], mac: Mac) -> bool
-    ensures { result ≡ among mac.0 (macs_in (map node_means nodes.now)) }
+    ensures { result ≡ list_any (λ m. mac.0 == m.0) (filter_map (λ n. n.mac) nodes.now) }
 {
-    for node in nodes {
-        if let Some(other) = node.mac {
-            if other == mac {
-                return true;
-            }
-        }
-    }
-    false
+    nodes
+        .iter()
+        .filter_map(|node| node.mac)
+        .any(|other| mac == other)
 }
 
 fn is_in_consists(consists: &[Consist], mac: Mac) -> bool
-    ensures { result ≡ among mac.0 (flat_map mac_row (described consists.now)) }
+    ensures { result ≡ list_any (λ c. list_any (λ m. mac.0 == m.0) (filter_map (λ n. n.mac) (nodes_of c))) consists.now }
 {
-    for consist in consists {
-        if is_in_nodes(consist.nodes(), mac) {
-            return true;
-        }
-    }
-    false
+    consists
+        .iter()
+        .any(|consist| is_in_nodes(consist.nodes(), mac))
 }
 
 /// Whether a node has a MAC that stands before it, in an earlier consist or in its own.
@@ -171,7 +138,8 @@ fn repeats_mac(before: &[Consist], nodes: &[Node]) -> bool
     false
 }
 
-/// Whether MACs differ; else the place of the first consist with one that stands before it.
+/// Whether MACs differ; else the place of the first consist with one that stands before it. Not one function with the UUIDs: a
+/// test and a fault handed in would need a contract longer than both loops.
 fn check_macs(consists: &[Consist]) -> Result<(), LineFault>
     ensures { result ≡ told (mac_twice_fault (described consists.now)) }
 {
@@ -183,36 +151,25 @@ fn check_macs(consists: &[Consist]) -> Result<(), LineFault>
     Ok(())
 }
 
-/// The set bits of the masks.
-fn set_bits(nodes: &[Node]) -> u16
-    requires { length nodes.now ≤ 4 }
-    ensures { result ≡ set_bits (masks_of nodes.now) }
-{
-    let mut bits = 0;
-    for node in nodes {
-        bits += node.mask.count_ones() as u16;
-    }
-    bits
-}
-
-/// Whether the limits hold; else the first that is passed.
+/// Whether the limits hold; else the first that is passed. A described train may have any number of consists, so its sums
+/// stop at the top; those of an inauguration cannot pass it.
 pub(crate) fn check_limits(consists: &[Consist]) -> Result<(), LineFault>
     ensures { result ≡ told (limit_fault (described consists.now)) }
 {
-    let mut nodes: u16 = 0;
-    let mut networks: u16 = 0;
-    let mut bits: u16 = 0;
+    let mut nodes: usize = 0;
+    let mut networks: u32 = 0;
+    let mut bits: u32 = 0;
     for consist in consists {
-        let own = consist.nodes();
-        nodes = nodes.saturating_add(own.len() as u16);
-        networks = networks.saturating_add(consist.served().count_ones() as u16);
-        bits = bits.saturating_add(set_bits(own));
+        let masks = consist.masks();
+        nodes = nodes.saturating_add(consist.nodes().len());
+        networks = networks.saturating_add(network_count(&masks));
+        bits = bits.saturating_add(bit_count(&masks));
     }
-    if nodes > 63 {
+    if nodes > NODES {
         Err(LineFault::Nodes)
-    } else if networks > 63 {
+    } else if networks > NETWORKS {
         Err(LineFault::Networks)
-    } else if bits > 128 {
+    } else if bits > BITS {
         Err(LineFault::Bits)
     } else {
         Ok(())

@@ -1,27 +1,31 @@
 -- From consists and nodes to what is answered. Assumes nothing.
-use Rattle.std.proofs.Common.{◌≡◌, ℕ, ◌+◌, ◌<◌, ◌≤◌, min, Bool, true, false, cond, not, ◌&&◌, eqb, leb, ◌⊎◌, List, [], ◌∷◌, ◌++◌, map, length, take, Some, None, Ok, Err, Option, Result, sym, refl, ap, ◌∙◌, ap₂, inl, inr, arith}
-use native.Mathlib.Nat.{min-eq_left, min-eq_right}
-use Rattle.std.proofs.lemmas.Bool.{cases_lt}
-use Rattle.std.proofs.lemmas.List.{take_all}
-use Rattle.std.specs.Option.{option_map}
+use Rattle.std.proofs.Common.{◌≡◌, ℕ, ◌+◌, min, Bool, true, false, cond, not, ◌&&◌, eqb, leb, List, [], ◌∷◌, ◌++◌, map, length, take, Some, None, Ok, Err, Option, Result, refl, ap, ◌∙◌, ap₂, arith}
+use Rattle.std.proofs.Math.Nat.{min_comm}
+use Rattle.std.proofs.lemmas.List.{take_min}
+use Rattle.std.specs.Option.{option_map, ok_or}
+use Rattle.arrayvec.specs.ArrayVec.{ArrayVec, with_items}
+use Rattle.arrayvec.proofs.ArrayVecLemmas.{items-with_items}
 use Rattle.report.specs.declared.Report as code
 use Rattle.report.specs.Reports.{Report}
 use Rattle.report.specs.Masks.{together}
 use Rattle.train.specs.Line.{Line}
 use Rattle.train.specs.Rules.{networks, set_bits}
-use Rattle.train.specs.Rows.{Met, meetings, rows_met, numbered}
+use Rattle.train.specs.Truth.{Awake}
+use Rattle.train.specs.Rows.{reading, Met, meetings, rows_met, numbered}
 use Rattle.train.specs.Agreement.{skeleton}
 use Rattle.train.proofs.Reading.{met_same}
 use Rattle.train.proofs.Totals.{total_same, as_many_masks}
 use Rattle.directory.specs.declared.directory.Directory.{Directory}
 use Rattle.directory.specs.Meaning.{serving}
 use Rattle.fitting.specs.Neighbours.{is_held, loose}
-use Rattle.fitting.specs.Walk.{stands, steps_of, if_some, Step}
+use Rattle.fitting.specs.Walk.{chain_of}
 use Rattle.fitting.specs.Assemble.{assemble}
-use Rattle.fitting.specs.Answer.{mute, loosely, split, mixed, long, is_within, shown_rows, line_answer, chain_answer, firm_answer, answer}
+use Rattle.fitting.specs.Answer.{mute, loosely, split, long, is_within, shown_rows, line_answer, chain_answer, firm_answer, answer}
 use Rattle.inauguration.specs.declared.refused.Refused.{Refused}
 use Rattle.inauguration.specs.declared.refused.Refused.TheVariants.{Mute, Loose, Split, Mixed, Long}
+use Rattle.inauguration.specs.declared.awake.Awake as node
 use Rattle.inauguration.specs.Meaning.{all_mean}
+use Rattle.inauguration.specs.Consists.{line_of}
 use Rattle.inauguration.specs.Answered.{answered, held_reports, NamesLoose}
 use Rattle.inauguration.specs.Nodes.{plain}
 
@@ -56,10 +60,6 @@ line_same k (Some l) e =
     let s : skeleton k ≡ skeleton l = cc in
     ap₂ (λ b rs. cond b (Ok rs) (Err long)) (within_same l k s) (shown_same l k s)
 
-pub line_none : (o : Option Line) → None ≡ option_map skeleton o → Err mixed ≡ line_answer o
-line_none None e = refl
-line_none (Some l) e = absurd (let z : ◌≡◌ {A = ℕ} 0 1 = cc in omega arith)
-
 -- the checks in their order
 module _ (own : ℕ) (hs : List Report) where
   held_is : (b : Bool) → b ≡ is_held own hs → cond b (firm_answer hs (loose hs)) (Err mute) ≡ answer own hs
@@ -71,21 +71,30 @@ module _ (own : ℕ) (hs : List Report) where
   pub says_loose : true ≡ is_held own hs → (m : ℕ) → Some m ≡ loose hs → Err loosely ≡ answer own hs
   says_loose e m l = ap (firm_answer hs) l ∙ held_is true e
 
-  pub says_split : true ≡ is_held own hs → None ≡ loose hs → None ≡ steps_of hs → Err split ≡ answer own hs
-  says_split e l s = ap (λ v. chain_answer (if_some v (λ ss. Some (map (stands hs) ss)))) s ∙ ap (firm_answer hs) l ∙ held_is true e
+  pub says_split : true ≡ is_held own hs → None ≡ loose hs → None ≡ chain_of hs → Err split ≡ answer own hs
+  says_split e l s = ap chain_answer s ∙ ap (firm_answer hs) l ∙ held_is true e
 
-  pub says_chain : true ≡ is_held own hs → None ≡ loose hs → (ss : List Step) → Some ss ≡ steps_of hs → line_answer (assemble (map (stands hs) ss)) ≡ answer own hs
-  says_chain e l ss s = ap (λ v. chain_answer (if_some v (λ ss. Some (map (stands hs) ss)))) s ∙ ap (firm_answer hs) l ∙ held_is true e
+  pub says_chain : true ≡ is_held own hs → None ≡ loose hs → (xs : List Awake) → Some xs ≡ chain_of hs → line_answer (assemble xs) ≡ answer own hs
+  says_chain e l xs s = ap chain_answer s ∙ ap (firm_answer hs) l ∙ held_is true e
+
+-- what an option was from which a result was made
+pub was_some : {A E : Type 0} (o : Option A) (e : E) (x : A) → Ok x ≡ ok_or o e → o ≡ Some x
+was_some None e x p = cc
+was_some (Some y) e x p = cc
+
+pub was_none : {A E : Type 0} (o : Option A) (e f : E) → Err f ≡ ok_or o e → o ≡ None
+was_none None e f p = refl
+was_none (Some y) e f p = cc
+
+-- consists that were put in the order of the reading through their slice
+pub in_order : (v : ArrayVec node.Awake) (lent new seen : List node.Awake) → lent ≡ v.items → length new ≡ length lent → line_of new ≡ reading (line_of lent)
+    → seen ≡ (with_items v new).items → line_of seen ≡ reading (line_of v.items)
+in_order v lent new seen e n r s =
+    ap line_of (s ∙ items-with_items v new (n ∙ ap length e)) ∙ r ∙ ap (λ cs. reading (line_of cs)) e
 
 -- no more than 63 reports are held
 pub clamped : (held : List code.Report) (n : ℕ) → n ≡ min (length held) 63 → all_mean (take n held) ≡ held_reports held
-clamped held n e = ap (λ k. all_mean (take k held)) e ∙ ap all_mean (go (cases_lt (length held) 63))
-  where
-    go : (length held < 63) ⊎ (63 ≤ length held) → take (min (length held) 63) held ≡ take 63 held
-    go (inl h) =
-        let le : length held ≤ 63 = omega arith in
-        ap (λ k. take k held) (min-eq_left le) ∙ take_all (length held) held (omega arith) ∙ sym (take_all 63 held le)
-    go (inr h) = ap (λ k. take k held) (min-eq_right h)
+clamped held n e = ap (λ k. all_mean (take k held)) (e ∙ min_comm (length held) 63) ∙ ap all_mean (take_min 63 held)
 
 -- where there is a chain, no report is loose
 not_loose : (o : Option Line) → Err loosely ≡ line_answer o → ⊥

@@ -1,7 +1,6 @@
 mod Scans
-mod Kept
-mod Masks
-mod Gathered
 mod Sums
+mod Kept
 mod Readings
+mod Gathered
 mod Answers

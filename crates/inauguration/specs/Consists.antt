@@ -1,26 +1,28 @@
--- What gathered consists mean: a line whose nodes are all asleep. Assumes nothing.
-use Rattle.std.specs.Prelude.{ℕ, Bool, ◌&&◌, List, map, take}
-use Rattle.report.specs.declared.Report as code
+-- What gathered consists mean, each told by one of its nodes: a line whose nodes are all asleep. Assumes nothing.
+use Rattle.std.specs.Prelude.{ℕ, Bool, ◌&&◌, List, map, take, Option}
+use Rattle.std.specs.Option.{option_map}
 use Rattle.report.specs.Reports.{whole}
 use Rattle.train.specs.Line.{Coupled, Line}
-use Rattle.directory.specs.declared.row.Way as code_way
+use Rattle.train.specs.Truth as truth
+use Rattle.train.specs.Agreement.{Outline, skeleton}
 use Rattle.directory.specs.Meaning.{way_means}
-use Rattle.fitting.specs.Assemble.{same_masks, same_way, behind, asleep}
-use Rattle.inauguration.specs.declared.consist.Consist.{Consist}
+use Rattle.fitting.specs.Assemble.{same_masks, same_way, behind, asleep, assemble}
+use Rattle.inauguration.specs.declared.awake.Awake.{Awake}
 
--- as the report of one of its nodes tells, standing so
-abbrev pub consist_of : code.Report → code_way.Way → Consist
-consist_of r w = record { uuid = r.uuid; way = w; nodes = r.nodes; masks = r.masks; last = r.position }
+abbrev pub masks_of : Awake → List ℕ
+masks_of a = take a.report.nodes a.report.masks
 
-abbrev pub masks_of : Consist → List ℕ
-masks_of c = take c.nodes c.masks
+abbrev pub coupled : Awake → Coupled
+coupled a = record { consist = record { uuid = whole a.report.uuid; nodes = asleep (masks_of a) }; way = way_means a.way }
 
-abbrev pub coupled : Consist → Coupled
-coupled c = record { consist = record { uuid = whole c.uuid; nodes = asleep (masks_of c) }; way = way_means c.way }
-
-abbrev pub line_of : List Consist → Line
+abbrev pub line_of : List Awake → Line
 line_of cs = map coupled cs
 
--- whether the node of c, met next, goes on with the consist of m: the same masks and way round, and its position is met behind
-abbrev pub goes : Consist → Consist → Bool
-goes c m = same_masks (masks_of c) (masks_of m) && same_way (way_means c.way) (way_means m.way) && behind (way_means m.way) m.last c.last
+-- whether the node a, met next, goes on with the consist of m, its node met last: the same masks and way round, and its position is met behind
+abbrev pub goes : Awake → Awake → Bool
+goes a m =
+    same_masks (masks_of a) (masks_of m) && same_way (way_means a.way) (way_means m.way) && behind (way_means m.way) m.report.position a.report.position
+
+-- the UUIDs, masks and ways round of the line assembled from awake nodes
+abbrev pub outlines_from : List truth.Awake → Option (List Outline)
+outlines_from xs = option_map skeleton (assemble xs)

@@ -1,6 +1,4 @@
 pub mod Meaning
-pub mod Laid
 pub mod Consists
-pub mod Gathered
 pub mod Nodes
 pub mod Answered

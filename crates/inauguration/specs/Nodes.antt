@@ -1,11 +1,10 @@
 -- Nodes as they are met, without their positions, on which no row depends. Assumes nothing.
-use Rattle.std.specs.Prelude.{ℕ, List, map, reverse, take}
+use Rattle.std.specs.Prelude.{ℕ, List, map, reverse}
 use Rattle.report.specs.Reports.{whole}
 use Rattle.train.specs.Line.{Way, forward, turned}
 use Rattle.train.specs.Rows.{Met}
-use Rattle.directory.specs.Meaning.{way_means, met_means}
-use Rattle.inauguration.specs.declared.consist.Consist.{Consist}
-use Rattle.inauguration.specs.declared.reading.Reading.{Reading}
+use Rattle.directory.specs.Meaning.{way_means}
+use Rattle.inauguration.specs.declared.awake.Awake.{Awake}
 use Rattle.inauguration.specs.Consists.{masks_of}
 
 abbrev pub plain : Met → Met
@@ -16,10 +15,9 @@ abbrev pub in_order : Way → List ℕ → List ℕ
 in_order forward ms = ms
 in_order turned ms = reverse ms
 
--- the nodes of a consist, as they are met
-abbrev pub consist_nodes : Consist → List Met
-consist_nodes c = map (λ m. record { uuid = whole c.uuid; position = 0; mask = m; way = way_means c.way }) (in_order (way_means c.way) (masks_of c))
+abbrev pub node_of : Awake → ℕ → Met
+node_of c m = record { uuid = whole c.report.uuid; position = 0; mask = m; way = way_means c.way }
 
--- the nodes that are counted
-abbrev pub nodes_met : Reading → List Met
-nodes_met r = map met_means (take r.count r.nodes)
+-- the nodes of a consist, as they are met
+abbrev pub consist_nodes : Awake → List Met
+consist_nodes c = map (node_of c) (in_order (way_means c.way) (masks_of c))

@@ -1,66 +1,37 @@
 //! The consists of the chain, gathered under their UUIDs.
 
-ghost use Rattle.std.specs.Prelude.{◌≡◌, ◌≤◌, ◌&&◌, length, ◌==◌};
+ghost use Rattle.std.specs.Prelude.{◌≡◌};
 ghost use Rattle.std.specs.Option.{option_map};
-ghost use Rattle.report.specs.Reports.{whole};
 ghost use Rattle.train.specs.Agreement.{skeleton};
-ghost use Rattle.inauguration.specs.Consists.{goes};
-ghost use Rattle.inauguration.specs.Laid.{LiesIn};
-ghost use Rattle.inauguration.specs.Gathered.{gathered_line, chain_nodes, outlines_from, Few};
+ghost use Rattle.inauguration.specs.Meaning.{nodes_mean};
+ghost use Rattle.inauguration.specs.Consists.{line_of, outlines_from};
 
-use crate::chain::{Chain, ROOM};
-use crate::consist::{Consist, NO_CONSIST, same_uuid};
+use crate::awake::{Awake, Nodes};
+use arrayvec::ArrayVec;
+use directory::limits::NODES;
 use keyed::Table;
-use report::Report;
 
-/// Consists in the order in which the chain meets them.
-#[derive(Clone, Copy)]
-pub struct Consists {
-    pub row: [Consist; ROOM],
-    pub len: usize,
-}
-
-/// Whether `next` has the UUID of the consist met last and goes on with it, where `met` is what is kept under its UUID.
-fn continues(current: &Consist, met: &Consist, next: &Consist) -> bool
-    ensures { result ≡ (whole current.now.uuid == whole next.now.uuid) && goes next.now met.now }
+/// The consists along the chain, each by its node met first, if the nodes are those of a line. A UUID that was met before
+/// must be that of the consist met last.
+pub(crate) fn gather(chain: &Nodes) -> Option<Nodes>
+    ensures { option_map (λ c. skeleton (line_of c.items)) result ≡ outlines_from (nodes_mean chain.now.items) }
 {
-    same_uuid(current.uuid, next.uuid) && met.goes_on(next)
-}
-
-/// The consists along the chain, if its nodes are those of a line. A UUID that was met before must be that of the consist
-/// met last.
-pub(crate) fn gather(held: &[Report], chain: &Chain) -> Option<Consists>
-    requires { (length held.now ≤ 63) × (LiesIn (length held.now) chain.now) }
-    ensures outlines { option_map (λ c. skeleton (gathered_line c)) result ≡ outlines_from (chain_nodes held.now chain.now) }
-    ensures few { Few result }
-{
-    let mut slots = [NO_CONSIST; ROOM];
+    let mut slots = [Awake::default(); NODES];
     let mut table = Table::new(&mut slots, 0);
-    let mut consists = Consists {
-        row: [NO_CONSIST; ROOM],
-        len: 0,
-    };
-    for k in 0..chain.len {
-        let next = Consist::of(&held[chain.places[k]], chain.ways[k]);
-        match table.find(&next.uuid) {
-            None => {
-                consists.row[consists.len] = next;
-                consists.len += 1;
-            }
+    let mut consists: Nodes = ArrayVec::new();
+    for node in chain.iter() {
+        let uuid = node.uuid();
+        match table.find(&uuid) {
+            None => consists.push(*node),
             Some(met) => {
-                if !continues(&consists.row[consists.len - 1], &met, &next) {
+                let last = consists.last()?;
+                if last.report.uuid != uuid || !met.goes_on(node) {
                     return None;
                 }
             }
         }
         // There is a place for each report, so the table is never full.
-        let Ok(_) = table.store(next) else {
-            unreachable()
-        };
+        let _count = table.store(*node).unwrap();
     }
-    if consists.len == 0 {
-        None
-    } else {
-        Some(consists)
-    }
+    (!consists.is_empty()).then_some(consists)
 }

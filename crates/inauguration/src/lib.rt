@@ -2,14 +2,15 @@
 
 #![tactic(auto)]
 
+mod awake;
 mod call;
 mod chain;
-mod consist;
 mod gather;
 mod limits;
 mod neighbours;
 mod reading;
 mod refused;
+mod show;
 
 pub use call::inaugurate;
 pub use refused::Refused;

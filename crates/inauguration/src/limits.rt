@@ -1,64 +1,47 @@
 //! The three limits: nodes, networks and set mask bits.
 
-ghost use Rattle.std.specs.Prelude.{◌≡◌, ◌≤◌, ◌&&◌, length, nat_le};
-ghost use Rattle.report.specs.Masks.{together as together_in};
-ghost use Rattle.train.specs.Rules.{set_bits};
+ghost use Rattle.std.specs.Prelude.{◌≡◌};
+ghost use Rattle.train.specs.Rules.{node_count, network_count, bit_count};
 ghost use Rattle.fitting.specs.Answer.{is_within as within_limits};
 ghost use Rattle.inauguration.specs.Consists.{line_of};
 
-use crate::consist::Consist;
+use crate::awake::Nodes;
+use directory::limits::{BITS, NETWORKS, NODES};
+use report::mask;
 
-const NODES: u32 = 63;
-
-const NETWORKS: u32 = 63;
-
-const BITS: u32 = 128;
-
-/// The networks that the masks serve together.
-fn together(masks: &[u8]) -> u8
-    ensures { result ≡ together_in masks.now }
+/// The nodes of the line of these consists.
+#[tactic(auto, using(crate::proofs::Sums::nodes_by))]
+fn node_count(consists: &Nodes) -> usize
+    ensures { result ≡ node_count (line_of consists.now.items) }
 {
-    let mut all = 0;
-    let mut i = masks.len();
-    while i > 0 {
-        i -= 1;
-        all = masks[i] | all;
-    }
-    all
+    consists.iter().map(|c| c.masks().len()).sum()
 }
 
-/// The set bits of the masks of one consist.
-fn set_bits(masks: &[u8]) -> u32
-    requires { length masks.now ≤ 4 }
-    ensures bits { result ≡ set_bits masks.now }
-    ensures few { result ≤ 32 }
+/// Its networks, each of each consist once.
+#[tactic(auto, using(crate::proofs::Sums::networks_by))]
+fn network_count(consists: &Nodes) -> u32
+    ensures { result ≡ network_count (line_of consists.now.items) }
 {
-    let mut bits = 0;
-    for mask in masks {
-        bits += mask.count_ones();
-    }
-    bits
+    consists
+        .iter()
+        .map(|c| mask::network_count(c.masks()))
+        .sum()
 }
 
-fn are_within(nodes: u32, networks: u32, bits: u32) -> bool
-    ensures { result ≡ nat_le nodes 63 && nat_le networks 63 && nat_le bits 128 }
+/// Its set mask bits.
+#[tactic(auto, using(crate::proofs::Sums::bits_by))]
+fn bit_count(consists: &Nodes) -> u32
+    ensures { result ≡ bit_count (line_of consists.now.items) }
 {
-    nodes <= NODES && networks <= NETWORKS && bits <= BITS
+    consists.iter().map(|c| mask::bit_count(c.masks())).sum()
 }
 
 /// Whether the line of these consists is within the limits.
-pub(crate) fn is_within(consists: &[Consist]) -> bool
-    requires { length consists.now ≤ 63 }
-    ensures { result ≡ within_limits (line_of consists.now) }
+pub(crate) fn is_within(consists: &Nodes) -> bool
+    ensures { result ≡ within_limits (line_of consists.now.items) }
 {
-    let mut nodes = 0;
-    let mut networks = 0;
-    let mut bits = 0;
-    for consist in consists {
-        let masks = consist.masks();
-        nodes += masks.len() as u32;
-        networks += together(masks).count_ones();
-        bits += set_bits(masks);
-    }
-    are_within(nodes, networks, bits)
+    let nodes = node_count(consists);
+    let networks = network_count(consists);
+    let bits = bit_count(consists);
+    nodes <= NODES && networks <= NETWORKS && bits <= BITS
 }

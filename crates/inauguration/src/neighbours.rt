@@ -13,12 +13,7 @@ pub(crate) fn place_of(held: &[Report], mac: Mac) -> Option<usize>
     ensures place { result ≡ place_in mac.0 0 (all_mean held.now) }
     ensures within { IfSome result (λ i. i < length held.now) }
 {
-    for (i, report) in held.iter().enumerate() {
-        if report.mac.0 == mac.0 {
-            return Some(i);
-        }
-    }
-    None
+    held.iter().position(|report| report.mac == mac)
 }
 
 /// Whether a report is held under this MAC.
@@ -32,20 +27,14 @@ pub(crate) fn is_held(held: &[Report], mac: Mac) -> bool
 fn names(report: &Report, mac: Mac) -> bool
     ensures { result ≡ names_in mac.0 (means report.now) }
 {
-    report.side1.0 == mac.0 || report.side2.0 == mac.0
+    report.side1 == mac || report.side2 == mac
 }
 
 /// Whether `neighbour`, where it is one, has a report held that names `mac`.
 fn names_back(held: &[Report], mac: Mac, neighbour: Mac) -> bool
     ensures { result ≡ is_backed (all_mean held.now) mac.0 neighbour.0 }
 {
-    if neighbour.0 == 0 {
-        return true;
-    }
-    match place_of(held, neighbour) {
-        Some(place) => names(&held[place], mac),
-        None => false,
-    }
+    neighbour == Mac(0) || place_of(held, neighbour).is_some_and(|place| names(&held[place], mac))
 }
 
 fn is_loose(held: &[Report], report: &Report) -> bool
@@ -58,10 +47,7 @@ fn is_loose(held: &[Report], report: &Report) -> bool
 pub(crate) fn loose(held: &[Report]) -> Option<Mac>
     ensures { option_map (λ m. m.0) result ≡ loose_in (all_mean held.now) }
 {
-    for report in held {
-        if is_loose(held, report) {
-            return Some(report.mac);
-        }
-    }
-    None
+    held.iter()
+        .find(|report| is_loose(held, report))
+        .map(|report| report.mac)
 }

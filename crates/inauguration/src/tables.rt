@@ -4,10 +4,11 @@ use crate::tests::refused;
 use crate::{Refused, inaugurate};
 use directory::Directory;
 use report::{Mac, Report, Uuid};
+use std::array;
 use std::process::Abort;
 
 /// The report of a node with these neighbours on side 1 and side 2, at position 1 of 2, say, of a consist with these masks.
-fn told(mac: u64, sides: [u64; 2], uuid: u64, place: [u8; 2], masks: [u8; 2]) -> Report {
+pub(crate) fn told(mac: u64, sides: [u64; 2], uuid: u64, place: [u8; 2], masks: [u8; 2]) -> Report {
     let [side1, side2] = sides;
     let [position, nodes] = place;
     let [first, second] = masks;
@@ -162,10 +163,7 @@ fn three_reports_fit_a_line_or_not(rt: HostRuntime) {
 
 /// The directory at the node with this MAC; a fresh one where it is refused.
 fn directory_at(own: u64, held: &[Report]) -> Directory {
-    match inaugurate(Mac(own), held) {
-        Ok(directory) => directory,
-        Err(_) => Directory::none(),
-    }
+    inaugurate(Mac(own), held).unwrap_or(Directory::none())
 }
 
 /// The consist with the smaller UUID has the larger MAC at its end, until the node at its end 1 wakes up.
@@ -204,11 +202,7 @@ fn in_row(mac: u64, right: u64, consist: (u8, u8)) -> Report {
 
 /// The refusal of so many such consists and a last one, if there is one.
 fn refused_row(count: usize, each: (u8, u8), last: (u8, u8)) -> Option<Refused> {
-    let mut held = [in_row(1, 2, each); 63];
-    for i in 0..63usize {
-        let mac = i as u64 + 1;
-        held[i] = in_row(mac, mac + 1, each);
-    }
+    let mut held: [Report; 63] = array::from_fn(|i| in_row(i as u64 + 1, i as u64 + 2, each));
     let count = count.min(62);
     held[count] = in_row(count as u64 + 1, 0, last);
     refused(1, &held[0..count + 1])

@@ -1,29 +1,17 @@
 //! Worked examples: which reports give a directory, and which refusal each other set gives.
 
-use crate::{Refused, inaugurate};
-use report::{Mac, Report, Uuid};
+use crate::{Refused, inaugurate, tables};
+use report::{Mac, Report};
 
 /// A node of a consist of one or two nodes; its neighbours are on side 1 and on side 2.
 fn told(mac: u64, sides: [u64; 2], uuid: u64, position: u8, nodes: u8) -> Report {
-    let [side1, side2] = sides;
     let second = if nodes == 2 { 3 } else { 0 };
-    Report {
-        mac: Mac(mac),
-        side1: Mac(side1),
-        side2: Mac(side2),
-        uuid: Uuid { high: 0, low: uuid },
-        position,
-        nodes,
-        masks: [1, second, 0, 0],
-    }
+    tables::told(mac, sides, uuid, [position, nodes], [1, second])
 }
 
 /// The refusal, if there is one.
 pub(crate) fn refused(own: u64, held: &[Report]) -> Option<Refused> {
-    match inaugurate(Mac(own), held) {
-        Ok(_) => None,
-        Err(fault) => Some(fault),
-    }
+    inaugurate(Mac(own), held).err()
 }
 
 #[test]

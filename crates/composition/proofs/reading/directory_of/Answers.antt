@@ -1,4 +1,4 @@
-use Rattle.std.proofs.Common.{◌≡◌, ◌-◌, List, take, Some, None, Ok, Err, Option, Result, sym, ap, ◌∙◌, arith}
+use Rattle.std.proofs.Common.{◌≡◌, List, take, Some, None, Ok, Err, Option, Result, sym, ap, ◌∙◌}
 use Rattle.train.specs.Line.{Line}
 use Rattle.train.specs.Rows.{Row, rows, rows_met}
 use Rattle.train.proofs.Agreed.{one_directory}
@@ -17,13 +17,9 @@ answer l o = elim o [ None ↦ Ok (rows l) | Some f ↦ Err f ]
 pub returns : goal.returns
 returns c =
     let l = described c.args.consists.now in
-    let met = c.met_nodes-met.result in
-    let front : met.count - 0 ≡ met.count = omega arith in
-    let read : rows_from (take met.count met.nodes) ≡ rows l =
-    ap (λ xs. take 128 (rows_met (serving xs))) c.met_nodes-met.ensures.met ∙ gathered l c.requires.0 c.requires.1
-    in
+    let read : rows_from c.met_nodes.result.items ≡ rows l = ap (λ xs. take 128 (rows_met (serving xs))) c.met_nodes.ensures ∙ gathered l c.requires.0 c.requires.1 in
     record {
-      rows = ap Ok (c.of.ensures.rows ∙ ap (λ n. rows_from (take n met.nodes)) front ∙ read) ∙ sym (ap (answer l) (no_fault l c.requires.0 c.requires.1));
+      rows = ap Ok (c.of.ensures.rows ∙ ap rows_from c.as_slice.ensures.value ∙ read) ∙ sym (ap (answer l) (no_fault l c.requires.0 c.requires.1));
       one = one_directory;
       numbered = numbered;
       limits = limits_suffice;

@@ -1,4 +1,4 @@
-use Rattle.std.proofs.Common.{◌≡◌, ◌+◌, ◌++◌, length, take, drop}
+use Rattle.std.proofs.Common.{◌≡◌, ◌+◌, ◌++◌, length, drop}
 use Rattle.std.specs.List.{flat_map}
 use Rattle.train.specs.Rules.{node_count}
 use Rattle.train.specs.Rows.{reading}
@@ -9,6 +9,5 @@ use Rattle.composition.proofs.reading.met_nodes.Given as goal
 abbrev pub invariant-loop-place : goal.invariant-loop-place
 invariant-loop-place l =
     let read = reading (described l.consists) in
-    (nodes_mean (take l.count l.nodes) ++ flat_map met_of (drop l.place read) ≡ flat_map met_of read)
-    × (l.count + node_count (drop l.place read) ≡ node_count read)
-    × (length l.nodes ≡ 63)
+    (nodes_mean l.nodes.items ++ flat_map met_of (drop l.place read) ≡ flat_map met_of read)
+    × (length l.nodes.items + node_count (drop l.place read) ≡ node_count read)

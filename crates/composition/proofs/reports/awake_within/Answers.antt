@@ -7,20 +7,15 @@ use Rattle.composition.specs.Meaning.{node_means, consist_means, described}
 use Rattle.composition.specs.Faults.{macs_in}
 use Rattle.composition.proofs.Exact.{as_many}
 use Rattle.composition.proofs.Sending.{length_reports, sent_means}
-use Rattle.composition.proofs.Steps.{no_consist, few_nodes}
+use Rattle.composition.proofs.Steps.{no_consist, count_awake}
 use Rattle.composition.proofs.reports.awake_within.Goals as goal
-
-pub count_awake-awake-requires : goal.count_awake-awake-requires
-count_awake-awake-requires c =
-    let d = get_or c.args.consists.now c.loop-consist.consist-index no_consist in
-    omega (arith, few_nodes d, ap length c.nodes.ensures)
 
 pub returns-then-awake-free : goal.returns-then-awake-free
 returns-then-awake-free c =
     let k = c.loop-consist.consist-index in
     let cs = c.args.consists.now in
     let s = consist_means (get_or cs k no_consist) in
-    let n = c.count_awake-awake.ensures ∙ ap (λ ns. length (macs_in (map node_means ns))) c.nodes.ensures ∙ as_many s in
+    let n = c.count_awake-awake.ensures ∙ count_awake c.nodes.result.now ∙ ap (λ ns. length (macs_in (map node_means ns))) c.nodes.ensures ∙ as_many s in
     let rest = at_drop_more (λ xs. length (awake (described xs))) cs k no_consist c.loop-consist-test.true ∙ length-append (awake_of s) (awake (described (drop (k + 1) cs))) in
     let total = length_reports 0 (awake (described cs)) in
     let over : c.args.room < length (true_reports (described cs)) = omega (arith, c.loop-consist.invariant.0) in
@@ -35,7 +30,7 @@ loop-consist-preserved c =
     let k = c.loop-consist.consist-index in
     let cs = c.args.consists.now in
     let s = consist_means (get_or cs k no_consist) in
-    let n = c.count_awake-awake.ensures ∙ ap (λ ns. length (macs_in (map node_means ns))) c.nodes.ensures ∙ as_many s in
+    let n = c.count_awake-awake.ensures ∙ count_awake c.nodes.result.now ∙ ap (λ ns. length (macs_in (map node_means ns))) c.nodes.ensures ∙ as_many s in
     let rest = at_drop_more (λ xs. length (awake (described xs))) cs k no_consist c.loop-consist-test.true ∙ length-append (awake_of s) (awake (described (drop (k + 1) cs))) in
     (omega (arith, c.loop-consist.invariant.0), omega (arith, c.loop-consist.invariant.1))
 

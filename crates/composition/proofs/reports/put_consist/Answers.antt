@@ -28,8 +28,8 @@ pub loop-step-init : goal.loop-step-init
 loop-step-init c =
     let s = consist_means c.args.consist.now in
     let e = standing_awake s in (
-      ap (λ xs. take c.args.at c.args.out.now ++ map coded (reports_between c.args.left.0 xs c.args.after.0)) e,
-      ap (last_mac c.args.left.0) e,
+      ap (λ xs. take c.args.at c.args.out.now ++ map coded (reports_between c.args.between.left.0 xs c.args.between.right.0)) e,
+      ap (last_mac c.args.between.left.0) e,
       ap (λ xs. c.args.at + length xs) e,
       refl,
     )
@@ -46,7 +46,7 @@ loop-step-preserved c =
     let out = c.loop-step.out in
     let end = c.loop-step.end in
     let last = c.loop-step.last.0 in
-    let after = c.args.after.0 in
+    let after = c.args.between.right.0 in
     let rest = awake_in s (drop (k + 1) (standing s)) in
     let inv = c.loop-step.invariant in
     elim c.match-placed.branch [
@@ -55,7 +55,7 @@ loop-step-preserved c =
           let inside : end < length out = omega (arith, ap length step, inv.2, c.loop-step.auto.out, c.requires) in
           let a = awake_node s c.met-placed.result.position w.in-Some.mac.0 in
           let v = w.report_of.result in
-          let right = ap (λ m. m.0) w.unwrap_or-right.ensures ∙ next_is w.next_awake.result rest c.args.after w.next_awake.ensures in
+          let right = ap (λ m. m.0) w.unwrap_or-right.ensures ∙ next_is w.next_awake.result rest c.args.between.right w.next_awake.ensures in
           let v-is = w.report_of.ensures ∙ ap (λ r. coded (report last a r)) right in
           let tail = map coded (reports_between w.in-Some.mac.0 rest after) in (
             (λ i. take (w.end-is i) (w.out-is i) ++ map coded (reports_between (w.last-is i).0 rest after)) ∙ write_on out c.args.out.now end v tail inside
@@ -86,7 +86,7 @@ returns c =
     let past : length (standing s) ≤ k = omega (arith, length_standing s, length-map ns node_means, ap length c.nodes-step-end.ensures) in
     let none = at_drop_all (awake_in s) (standing s) k past in
     record {
-      front = sym (append-nil (take end out)) ∙ sym (ap (λ xs. take end out ++ map coded (reports_between last xs c.args.after.0)) none) ∙ inv.0;
+      front = sym (append-nil (take end out)) ∙ sym (ap (λ xs. take end out ++ map coded (reports_between last xs c.args.between.right.0)) none) ∙ inv.0;
       back = inv.3;
       ends = omega (arith, inv.2, ap length none);
       lasts = sym (ap (last_mac last) none) ∙ inv.1;

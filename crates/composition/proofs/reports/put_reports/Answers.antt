@@ -30,10 +30,10 @@ loop-i-preserved c =
     let end = c.put_consist-end.result.0 in
     let last = c.put_consist-end.result.1.0 in
     let here = at_drop_more (λ xs. awake (described xs)) cs i no_consist c.loop-i-test.true in
-    let after = c.first_mac-after.ensures ∙ ap (λ xs. first_mac (awake (described xs))) (take_rest cs (i + 1)) in
+    let after = c.first_mac-right.ensures ∙ ap (λ xs. first_mac (awake (described xs))) (take_rest cs (i + 1)) in
     let n = length (awake_of s) in
     let apart = length-append (awake_of s) rest in (
-      ap (λ xs. xs ++ map coded (reports last rest)) put.front ∙ joins (take at out) left (awake_of s) rest c.first_mac-after.result.0 last after put.lasts
+      ap (λ xs. xs ++ map coded (reports last rest)) put.front ∙ joins (take at out) left (awake_of s) rest c.first_mac-right.result.0 last after put.lasts
           ∙ sym (ap (λ xs. take at out ++ map coded (reports left xs)) here) ∙ inv.0,
       omega (arith, put.ends, ap length here, apart, inv.1),
       put.back ∙ ap (λ k. drop k out) put.ends ∙ sym (drop-drop n at out) ∙ ap (drop n) inv.2 ∙ drop-drop n at c.args.out.now ∙ ap (λ k. drop k c.args.out.now) (sym put.ends),

@@ -12,8 +12,8 @@ pub returns : goal.returns
 returns c =
     let u = c.args.consist.now.uuid in
     let ns = nodes_of c.args.consist.now in
-    let side1 = c.facing.ensures in
-    let side2 = c.facing-2.ensures in
+    let side1 = c.sides.ensures.side1 in
+    let side2 = c.sides.ensures.side2 in
     let high : u.high ≡ whole u / 2 ^ 64 = omega arith in
     let low : u.low ≡ whole u % 2 ^ 64 = omega arith in
     let count : length c.nodes.result.now ≡ length (masks_of ns) = ap length c.nodes.ensures ∙ sym (length-map (map node_means ns) (λ n. n.mask) ∙ length-map ns node_means) in

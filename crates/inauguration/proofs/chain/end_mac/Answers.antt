@@ -1,20 +1,14 @@
-use Rattle.std.proofs.Common.{sym, ◌∙◌, inl, inr}
-use Rattle.inauguration.proofs.Scans.{code_blank, end_hit, end_miss, end_past}
+use Rattle.std.proofs.Common.{◌≡◌, ◌||◌, eqb, rules, ap, ◌∙◌}
+use borrow.Author.Tests.{tests}
+use Rattle.std.specs.List.{find}
+use Rattle.std.specs.Option.{option_map, unwrap_or}
+use Rattle.std.proofs.lemmas.Iterator.{YieldsList-from_slice}
+use Rattle.std.proofs.lemmas.Iterator.Search.{find_from_yields_List}
+use Rattle.inauguration.proofs.Scans.{first_end}
 use Rattle.inauguration.proofs.chain.end_mac.Goals as goal
-use Rattle.inauguration.proofs.chain.end_mac.Goals.{then-report-eq0-via-then-report-eq0, then-report-eq0-via-else-report-eq0+then-report-eq0-2}
-
-pub returns-then-report-eq0 : goal.returns-then-report-eq0
-returns-then-report-eq0 c =
-    let hit = end_hit c.args.held.now code_blank c.loop-report.report-index c.loop-report-test.true in
-    elim c.then-report-eq0.branch [
-      | then-report-eq0-via-then-report-eq0 w ↦ sym (hit (inl w.if-report-eq0.true)) ∙ c.loop-report.invariant
-      | then-report-eq0-via-else-report-eq0+then-report-eq0-2 w ↦ sym (hit (inr w.if-report-eq0-2.true)) ∙ c.loop-report.invariant
-    ]
-
-pub loop-report-preserved : goal.loop-report-preserved
-loop-report-preserved c =
-    sym (end_miss c.args.held.now code_blank c.loop-report.report-index c.loop-report-test.true c.if-report-eq0.false c.if-report-eq0-2.false)
-    ∙ c.loop-report.invariant
 
 pub returns : goal.returns
-returns c = sym (end_past c.args.held.now code_blank c.loop-report.report-index c.loop-report-test.false) ∙ c.loop-report.invariant
+returns c =
+    let e = find_from_yields_List (λ r. eqb r.side1.0 0 || eqb r.side2.0 0) _ _ c.find.result c.find.ensures.ran (YieldsList-from_slice c.args.held.now cc) (λ x b q k. search (rules, tests)) in
+    let f : option_map (λ m. m.0) c.map.result ≡ option_map (λ r. r.mac.0) (find (λ r. eqb r.side1.0 0 || eqb r.side2.0 0) c.args.held.now) = search rules in
+    ap (λ o. unwrap_or o 0) f ∙ first_end c.args.held.now

@@ -1,48 +1,25 @@
-use Rattle.std.proofs.Common.{sym, ◌∙◌, arith}
-use Rattle.std.proofs.lemmas.Bool.{eqb-true, eqb-false}
-use Rattle.inauguration.specs.Meaning.{all_mean}
-use Rattle.inauguration.proofs.Scans.{code_blank, get_or_means, length_means}
-use Rattle.inauguration.proofs.Kept.{kept_start, kept_step, kept_less, kept_room, kept_lost, kept_met, kept_short, kept_whole}
+use Rattle.std.proofs.Common.{lit<, length, rules, sym, false, ◌∙◌}
+use borrow.Author.Tests.{tests}
+use Rattle.std.proofs.lemmas.List.{take-replicate}
+use Rattle.inauguration.proofs.Kept.{get_or_means, kept_start, kept_met, kept_less, kept_room, kept_step}
 use Rattle.inauguration.proofs.chain.find_chain.Goals as goal
 
-pub loop-mac-init : goal.loop-mac-init
-loop-mac-init c = kept_start (all_mean c.args.held.now) (omega (arith, length_means c.args.held.now, c.requires)) c.end_mac-mac.result.0 c.end_mac-mac.ensures
-
-pub returns-in_default : goal.returns-in_default
-returns-in_default c = record { steps = kept_lost _ _ _ _ _ _ _ c.loop-mac.invariant c.loop-mac-test.true (sym c.in_default.ensures.place); within = tt }
+pub loop-met-init : goal.loop-met-init
+loop-met-init c = kept_start c.args.held.now _ _ _ (take-replicate (length c.args.held.now) 63 false c.requires) c.new-chain.ensures (search rules ∙ c.end_mac.ensures)
 
 pub returns-then-met-place : goal.returns-then-met-place
-returns-then-met-place c = record {
-  steps = kept_met _ _ _ _ _ _ _ c.loop-mac.invariant c.in-Some.place c.loop-mac-test.true (sym c.in-Some.ensures.place) c.if-met-place.true;
-  within = tt;
-}
+returns-then-met-place c =
+    kept_met _ _ _ _ _ c.loop-met.invariant c.in_ok-place.place (sym c.in_ok-place.ensures.place) (search (rules, tests)) c.if-met-place.true
 
-pub bounds-chain-chain : goal.bounds-chain-chain
-bounds-chain-chain c = kept_room _ _ _ _ _ _ _ c.loop-mac.invariant c.in-Some.place c.loop-mac-test.true (sym c.in-Some.ensures.place) c.if-met-place.false
+pub push-requires : goal.push-requires
+push-requires c =
+    (lit< tt, kept_room _ _ _ _ _ c.loop-met.invariant c.in_ok-place.place (sym c.in_ok-place.ensures.place) (search (rules, tests)) c.if-met-place.false c.requires)
 
-pub bounds-chain-chain-in-loop-mac : goal.bounds-chain-chain-in-loop-mac
-bounds-chain-chain-in-loop-mac c =
-    kept_room _ _ _ _ _ _ _ c.loop-mac.invariant c.in-Some.place c.loop-mac-test.true (sym c.in-Some.ensures.place) c.if-met-place.false
+pub loop-met-smaller : goal.loop-met-smaller
+loop-met-smaller c =
+    kept_less _ _ _ _ _ c.loop-met.invariant c.in_ok-place.place (sym c.in_ok-place.ensures.place) (search (rules, tests)) c.if-met-place.false
 
-pub loop-mac-smaller : goal.loop-mac-smaller
-loop-mac-smaller c = kept_less _ _ _ _ _ _ _ c.loop-mac.invariant c.in-Some.place c.loop-mac-test.true (sym c.in-Some.ensures.place) c.if-met-place.false
-
-pub loop-mac-preserved : goal.loop-mac-preserved
-loop-mac-preserved c =
-    kept_step _ _ _ _ _ _ _ c.loop-mac.invariant c.in-Some.place c.loop-mac-test.true (sym c.in-Some.ensures.place) c.if-met-place.false
-    _ _ _ (get_or_means c.args.held.now c.in-Some.place code_blank c.in-Some.ensures.within) c.seen_from-way.ensures.way c.seen_from-way.ensures.next
-
-pub returns-then-is_whole : goal.returns-then-is_whole
-returns-then-is_whole c =
-    let n = length_means c.args.held.now in
-    let all = eqb-true _ _ (sym c.if-is_whole.ensures) in
-    record {
-      steps = kept_whole _ _ _ _ _ _ _ c.loop-mac.invariant c.loop-mac-test.false (all ∙ sym n);
-      within = record { count = all; places_long = c.loop-mac.invariant.ps_long; ways_long = c.loop-mac.invariant.ts_long; inside = λ k h. omega (arith, c.loop-mac.invariant.inside k h, n) };
-    }
-
-pub returns-else-is_whole : goal.returns-else-is_whole
-returns-else-is_whole c = record {
-  steps = kept_short _ _ _ _ _ _ _ c.loop-mac.invariant c.loop-mac-test.false (λ e. eqb-false _ _ (sym c.if-is_whole.ensures) (e ∙ length_means c.args.held.now));
-  within = tt;
-}
+pub loop-met-preserved : goal.loop-met-preserved
+loop-met-preserved c =
+    kept_step _ _ _ _ _ c.loop-met.invariant c.in_ok-place.place (sym c.in_ok-place.ensures.place) (search (rules, tests)) c.if-met-place.false _ _ _ _
+    (get_or_means c.args.held.now c.in_ok-place.place _ c.in_ok-place.ensures.within) c.seen_from-way.ensures.way c.seen_from-way.ensures.next c.push.ensures.items

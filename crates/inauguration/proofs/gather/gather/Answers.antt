@@ -1,39 +1,48 @@
-use Rattle.std.proofs.Common.{◌+◌, length, sym, ap, subst, arith}
-use Rattle.keyed.specs.Table.{live}
-use Rattle.inauguration.specs.declared.gather.Consists.{Consists}
-use Rattle.inauguration.specs.Gathered.{chain_nodes}
-use Rattle.inauguration.proofs.Scans.{code_blank}
-use Rattle.inauguration.proofs.Gathered.{Gathered, gathered_start, at_none, at_some, has_last, at_stop, at_leaves, at_new, at_on, no_consist, fails, holds}
+use Rattle.std.proofs.Common.{◌-◌, length, rules, sym, ap, ◌∙◌, arith}
+use borrow.Author.Tests.{tests}
+use Rattle.std.specs.List.{slice_get}
+use Rattle.std.proofs.lemmas.List.{at_drop_more, at_drop_all}
+use Rattle.std.specs.Option.{option_map}
+use Rattle.train.specs.Agreement.{skeleton}
+use Rattle.inauguration.specs.Meaning.{nodes_mean}
+use Rattle.inauguration.specs.Consists.{line_of, outlines_from}
+use Rattle.inauguration.proofs.Readings.{no_node}
+use Rattle.inauguration.proofs.Gathered.{gathered_start, gathered_new, gathered_on, stops_other, stops_mixed, some_last, gathered_end}
 use Rattle.inauguration.proofs.gather.gather.Goals as goal
-use Rattle.inauguration.proofs.gather.gather.Goals.{in-None, in-Some+else-not-continues}
+use Rattle.inauguration.proofs.gather.gather.Goals.{in-None, in-Some+in_ok-last-in-Some+else-ne+else-not-goes_on, then-ne-via-then-ne, then-ne-via-else-ne+then-not-goes_on}
 
-pub loop-k-init : goal.loop-k-init
-loop-k-init c = gathered_start _ _ _ _ c.new-table.ensures.live (ap length c.new-table.ensures.slots) (omega arith)
+pub loop-node-init : goal.loop-node-init
+loop-node-init c = gathered_start _ _ _ _ (omega arith) c.new-table.ensures.live (ap length c.new-table.ensures.slots) c.new-consists.ensures
 
-pub overflow_sub-consists : goal.overflow_sub-consists
-overflow_sub-consists c = has_last c.args.held.now c.args.chain.now _ _ _ _ _ c.loop-k.invariant c.requires.0 c.requires.1 c.of-next.result _ code_blank c.loop-k-test.true c.of-next.ensures.fields c.of-next.ensures.high c.of-next.ensures.low c.in-Some.met (sym c.in-Some.ensures)
+pub returns-in_err-last-in-Some : goal.returns-in_err-last-in-Some
+returns-in_err-last-in-Some c =
+    let is = at_drop_more (λ ys. ys) c.deref-node-items.result.now c.loop-node.node-index no_node c.loop-node-test.true in
+    let key = c.uuid-uuid.ensures in
+    absurd (some_last _ _ _ _ is _ _ _ c.loop-node.invariant c.uuid-uuid.result key.value key.high key.low c.in-Some.met (sym c.in-Some.ensures)
+    (c.in_err-last-in-Some.ensures.value ∙ ap (λ ys. slice_get ys (length ys - 1)) c.deref.ensures.0))
 
-pub returns-then-not-continues : goal.returns-then-not-continues
-returns-then-not-continues c = record {
-  outlines = at_stop c.args.held.now c.args.chain.now _ _ _ _ _ c.loop-k.invariant c.requires.0 c.requires.1 c.of-next.result _ code_blank c.loop-k-test.true c.of-next.ensures.fields c.of-next.ensures.high c.of-next.ensures.low c.in-Some.met no_consist (sym c.in-Some.ensures) (fails _ _ _ (sym c.if-not-continues.ensures));
-  few = tt;
-}
+pub returns-then-ne : goal.returns-then-ne
+returns-then-ne c =
+    let is = at_drop_more (λ ys. ys) c.deref-node-items.result.now c.loop-node.node-index no_node c.loop-node-test.true in
+    let key = c.uuid-uuid.ensures in
+    let last = sym (c.in_ok-last-in-Some.ensures.value ∙ ap (λ ys. slice_get ys (length ys - 1)) c.deref.ensures.0) in
+    (elim c.then-ne.branch [
+      | then-ne-via-then-ne w ↦ stops_other _ _ _ _ is _ _ _ c.loop-node.invariant c.uuid-uuid.result key.value key.high key.low c.in-Some.met (sym c.in-Some.ensures) c.in_ok-last-in-Some.last.now last (search (rules, tests))
+      | then-ne-via-else-ne+then-not-goes_on w ↦ stops_mixed _ _ _ _ is _ _ _ c.loop-node.invariant c.uuid-uuid.result key.value key.high key.low c.in-Some.met (sym c.in-Some.ensures) c.in_ok-last-in-Some.last.now last (search (rules, tests)) (search (rules, tests))
+    ]) ∙ ap (λ ys. outlines_from (nodes_mean ys)) c.deref-node-items.ensures.0
 
-pub loop-k-preserved : goal.loop-k-preserved
-loop-k-preserved c =
-    let long = at_leaves c.args.held.now c.args.chain.now _ _ _ _ _ c.loop-k.invariant c.requires.0 c.requires.1 c.of-next.result _ code_blank c.loop-k-test.true c.of-next.ensures.fields c.of-next.ensures.high c.of-next.ensures.low _ c.store.ensures.slots in
-    let here : Consists → Type 0 = λ v. Gathered (chain_nodes c.args.held.now c.args.chain.now) (c.loop-k.k + 1) (live c.store.new.self) c.store.new.self.slots.now v.row v.len in
+pub loop-node-preserved : goal.loop-node-preserved
+loop-node-preserved c =
+    let is = at_drop_more (λ ys. ys) c.deref-node-items.result.now c.loop-node.node-index no_node c.loop-node-test.true in
+    let key = c.uuid-uuid.ensures in
     elim c.match-find.branch [
-      | in-None w ↦ subst here (sym w.consists-is) (at_new c.args.held.now c.args.chain.now _ _ _ _ _ c.loop-k.invariant c.requires.0 c.requires.1 c.of-next.result _ code_blank c.loop-k-test.true c.of-next.ensures.fields c.of-next.ensures.high c.of-next.ensures.low (sym w.in-None.ensures) _ _ c.store.ensures.live long)
-      | in-Some+else-not-continues w ↦ (let p = holds _ _ _ (sym w.if-not-continues.ensures) in
-          subst here (sym w.consists-is) (at_on c.args.held.now c.args.chain.now _ _ _ _ _ c.loop-k.invariant c.requires.0 c.requires.1 c.of-next.result _ code_blank c.loop-k-test.true c.of-next.ensures.fields c.of-next.ensures.high c.of-next.ensures.low w.in-Some.met no_consist (sym w.in-Some.ensures) p.0 p.1 _ _ c.store.ensures.live long))
+      | in-None w ↦ gathered_new _ _ _ _ is _ _ _ c.loop-node.invariant c.uuid-uuid.result key.value key.high key.low (sym w.in-None.ensures) _ _ _ c.store.ensures.live c.store.ensures.slots (ap (λ v. v.items) w.consists-is ∙ w.push.ensures.items)
+      | in-Some+in_ok-last-in-Some+else-ne+else-not-goes_on w ↦ gathered_on _ _ _ _ is _ _ _ c.loop-node.invariant c.uuid-uuid.result key.value key.high key.low w.in-Some.met (sym w.in-Some.ensures) w.in_ok-last-in-Some.last.now
+          (sym (w.in_ok-last-in-Some.ensures.value ∙ ap (λ ys. slice_get ys (length ys - 1)) w.deref.ensures.0)) (search (rules, tests)) (search (rules, tests)) _ _ _ c.store.ensures.live c.store.ensures.slots (ap (λ v. v.items) w.consists-is)
     ]
 
-pub returns-then-consists-eq0 : goal.returns-then-consists-eq0
-returns-then-consists-eq0 c = record { outlines = at_none c.args.held.now c.args.chain.now _ _ _ _ _ c.loop-k.invariant c.requires.0 c.requires.1 c.loop-k-test.false c.if-consists-eq0.true; few = tt }
-
-pub returns-else-consists-eq0 : goal.returns-else-consists-eq0
-returns-else-consists-eq0 c = record {
-  outlines = at_some c.args.held.now c.args.chain.now _ _ _ _ _ c.loop-k.invariant c.requires.0 c.requires.1 c.loop-k-test.false c.if-consists-eq0.false;
-  few = (omega (arith, c.loop-k.invariant.short, c.loop-k.auto.k-end, c.requires.0, c.requires.1.count), c.loop-k.invariant.room);
-}
+pub returns : goal.returns
+returns c =
+    ap (option_map (λ v. skeleton (line_of v.items))) c.then_some.ensures
+    ∙ gathered_end (λ v. v.items) c.loop-node.consists _ _ _ _ c.loop-node.invariant (at_drop_all (λ ys. ys) c.deref-node-items.result.now c.loop-node.node-index c.loop-node-test.false) c.is_empty.result c.is_empty.ensures
+    ∙ ap (λ ys. outlines_from (nodes_mean ys)) c.deref-node-items.ensures.0

@@ -1,15 +1,12 @@
-use Rattle.std.proofs.Common.{sym, ◌∙◌}
-use Rattle.inauguration.proofs.Scans.{code_blank, place_hit, place_miss, place_past}
+use Rattle.std.proofs.Common.{eqb, rules, ◌∙◌}
+use borrow.Author.Tests.{tests}
+use Rattle.std.proofs.lemmas.Iterator.{YieldsList-from_slice}
+use Rattle.std.proofs.lemmas.Iterator.Adapters.{position_from-zero}
+use Rattle.std.proofs.lemmas.Iterator.Search.{position_from_yields_List}
+use Rattle.inauguration.proofs.Scans.{placed}
 use Rattle.inauguration.proofs.neighbours.place_of.Goals as goal
 
-pub returns-then-report-mac : goal.returns-then-report-mac
-returns-then-report-mac c = record {
-  place = sym (place_hit c.args.held.now _ c.loop-i.i c.args.mac.0 c.loop-i-test.true c.if-report-mac.true) ∙ c.loop-i.invariant;
-  within = c.loop-i-test.true;
-}
-
-pub loop-i-preserved : goal.loop-i-preserved
-loop-i-preserved c = sym (place_miss c.args.held.now _ c.loop-i.i c.args.mac.0 c.loop-i-test.true c.if-report-mac.false) ∙ c.loop-i.invariant
-
-pub returns : goal.returns
-returns c = record { place = sym (place_past c.args.held.now code_blank c.loop-i.i c.args.mac.0 c.loop-i-test.false) ∙ c.loop-i.invariant; within = tt }
+pub returns-clause-place : goal.returns-clause-place
+returns-clause-place c =
+    position_from_yields_List (λ r. eqb r.mac.0 c.args.mac.0) _ _ c.position.result c.position.ensures.ran (YieldsList-from_slice c.args.held.now cc) (λ x b q k. search (rules, tests))
+    ∙ position_from-zero (λ r. eqb r.mac.0 c.args.mac.0) c.args.held.now ∙ placed c.args.mac.0 0 c.args.held.now

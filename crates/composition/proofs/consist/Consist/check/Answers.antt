@@ -10,7 +10,7 @@ use Rattle.composition.specs.declared.fault.ConsistRule.{ConsistRule}
 use Rattle.composition.specs.declared.fault.ConsistRule.TheVariants.{NoUuid, NodeCount, Gap, NoneAwake}
 use Rattle.composition.specs.Meaning.{node_means, masks_of, nodes_of, consist_means}
 use Rattle.composition.specs.Faults.{told, or_else, unless, mask_fault, mac_fault, macs_in, consist_fault}
-use Rattle.composition.proofs.Steps.{told_none, told_some, few_nodes}
+use Rattle.composition.proofs.Steps.{any_awake, told_none, told_some, few_nodes}
 use Rattle.composition.proofs.consist.Consist.check.Goals as goal
 
 abbrev ordered : Bool → Bool → Option ConsistRule → Bool → Bool → Option ConsistRule → Option ConsistRule
@@ -40,7 +40,7 @@ returns-then-is_empty c =
     let ns = c.nodes-nodes.result.now in
     let self = c.args.self.now in
     let are = c.nodes-nodes.ensures in
-    let u = c.if-not-is_uuid.ensures in
+    let u = c.if-not-is_valid.ensures in
     let none : length ns ≡ 0 = eqb-true (length ns) 0 (sym c.if-is_empty.ensures) in
     let n : false ≡ count_fits ns = ap (λ k. leb 1 k && leb k 4) (sym (length-map ns node_means ∙ none)) in
     (λ i. told (ordered (u i) (n i) (mask_fault 1 (map node_means ns)) (gapless (masks_of ns)) (leb 1 (length (macs_in (map node_means ns)))) (mac_fault 1 (map node_means ns))))
@@ -51,7 +51,7 @@ returns-in_err-check_masks c =
     let ns = c.nodes-nodes.result.now in
     let self = c.args.self.now in
     let are = c.nodes-nodes.ensures in
-    let u = c.if-not-is_uuid.ensures in
+    let u = c.if-not-is_valid.ensures in
     let n = counted self ns are c.if-is_empty.ensures in
     let p = err_from_is_err_and c.from_residual.result c.from_residual.ensures.1 in
     let m = sym (told_some (mask_fault 1 (map node_means ns)) _ c.in_err-check_masks.ensures) in
@@ -64,7 +64,7 @@ returns-then-not-is_gapless c =
     let ns = c.nodes-nodes.result.now in
     let self = c.args.self.now in
     let are = c.nodes-nodes.ensures in
-    let u = c.if-not-is_uuid.ensures in
+    let u = c.if-not-is_valid.ensures in
     let n = counted self ns are c.if-is_empty.ensures in
     let m = sym (told_none (mask_fault 1 (map node_means ns)) c.in_ok-check_masks.ensures) in
     let g = gaps self ns are _ c.served.result c.if-not-is_gapless.ensures c.served.ensures in
@@ -75,11 +75,11 @@ returns-then-not-is_any_awake c =
     let ns = c.nodes-nodes.result.now in
     let self = c.args.self.now in
     let are = c.nodes-nodes.ensures in
-    let u = c.if-not-is_uuid.ensures in
+    let u = c.if-not-is_valid.ensures in
     let n = counted self ns are c.if-is_empty.ensures in
     let m = sym (told_none (mask_fault 1 (map node_means ns)) c.in_ok-check_masks.ensures) in
     let g = gaps self ns are _ c.served.result c.if-not-is_gapless.ensures c.served.ensures in
-    let a = c.if-not-is_any_awake.ensures in
+    let a = c.if-not-is_any_awake.ensures ∙ any_awake ns in
     (λ i. told (ordered (u i) (n i) (m i) (g i) (a i) (mac_fault 1 (map node_means ns)))) ∙ same self ns are
 
 pub returns : goal.returns
@@ -87,9 +87,9 @@ returns c =
     let ns = c.nodes-nodes.result.now in
     let self = c.args.self.now in
     let are = c.nodes-nodes.ensures in
-    let u = c.if-not-is_uuid.ensures in
+    let u = c.if-not-is_valid.ensures in
     let n = counted self ns are c.if-is_empty.ensures in
     let m = sym (told_none (mask_fault 1 (map node_means ns)) c.in_ok-check_masks.ensures) in
     let g = gaps self ns are _ c.served.result c.if-not-is_gapless.ensures c.served.ensures in
-    let a = c.if-not-is_any_awake.ensures in
+    let a = c.if-not-is_any_awake.ensures ∙ any_awake ns in
     c.check_mac_ranges.ensures ∙ (λ i. told (ordered (u i) (n i) (m i) (g i) (a i) (mac_fault 1 (map node_means ns)))) ∙ same self ns are
