@@ -1,7 +1,8 @@
 -- A hold that is granted and returned leaves the node as it was. Assumes nothing.
 use Rattle.std.proofs.Common.{◌≡◌, ℕ, ◌+◌, ◌-◌, Bool, true, false, cond, ltb, None, Ok, Err, sym, refl, ap, ◌∙◌, arith}
 use Rattle.std.proofs.lemmas.Bool.{eq-eqb, lt-ltb, and_from}
-use Rattle.runs.specs.Calls.{State, Meaning, told, granted, refused, busy, hold, give_back, with_holds, after, hold_answer}
+use Rattle.plan.specs.Meaning.{Meaning}
+use Rattle.runs.specs.Calls.{State, told, granted, refused, busy, hold, give_back, with_holds, after, hold_answer}
 use Rattle.hold_client.specs.Held.{if_free}
 
 -- any plan
@@ -10,7 +11,7 @@ no_plan = record { serves = λ _. None; stands = λ _. None }
 
 module _ (s t : State) (left : t ≡ after s hold) where
   busy_at : (b : Bool) → ltb s.holds 16 ≡ b → refused busy ≡ told granted (cond b (Ok s.mac) (Err busy)) → t ≡ with_holds s (cond b (s.holds + 1) s.holds) → (ltb s.holds 16 ≡ false) × (t ≡ s)
-  busy_at true e f l = absurd (let z : ◌≡◌ {A = ℕ} 0 1 = cc in omega arith)
+  busy_at true e f l = cc
   busy_at false e f l = (e, l)
 
   pub no_hold_left : refused busy ≡ told granted (hold_answer s) → (ltb s.holds 16 ≡ false) × (t ≡ s)
@@ -19,7 +20,7 @@ module _ (s t : State) (left : t ≡ after s hold) where
   granted_at : (m : ℕ) (b : Bool) → ltb s.holds 16 ≡ b → granted m ≡ told granted (cond b (Ok s.mac) (Err busy)) → t ≡ with_holds s (cond b (s.holds + 1) s.holds)
       → (ltb s.holds 16 ≡ true) × (m ≡ s.mac) × (t ≡ with_holds s (s.holds + 1))
   granted_at m true e f l = (e, (let z : m ≡ s.mac = cc in z), l)
-  granted_at m false e f l = absurd (let z : ◌≡◌ {A = ℕ} 0 1 = cc in omega arith)
+  granted_at m false e f l = cc
 
   pub granted_left : (m : ℕ) → granted m ≡ told granted (hold_answer s) → (ltb s.holds 16 ≡ true) × (m ≡ s.mac) × (t ≡ with_holds s (s.holds + 1))
   granted_left m f = granted_at m (ltb s.holds 16) refl f left

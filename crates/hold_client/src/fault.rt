@@ -1,40 +1,31 @@
 //! Why nothing was read.
 
 ghost use Rattle.std.specs.Prelude.{◌≡◌};
-ghost use Rattle.hold_client.specs.declared.fault.ReadFault.TheVariants as reading;
-ghost use Rattle.hold_client.specs.declared.fault.StatusFault.TheVariants as asking;
+ghost use Rattle.hold_client.specs.declared.fault.HoldFault.TheVariants as fault;
 
 use addressing::Refused;
-use node::DirectoryFault;
+use node::{Busy, DirectoryFault};
+
+/// Why nothing is read under a hold.
+#[derive(Clone, Copy, PartialEq, Eq, Debug)]
+pub enum HoldFault<E> {
+    /// No hold is granted.
+    Busy,
+    /// One is granted, and the node refuses what it is asked.
+    Refused(E),
+}
 
 /// Why no directory is read.
-#[derive(Clone, Copy, PartialEq, Eq, Debug)]
-pub enum ReadFault {
-    /// No hold is granted.
-    Busy,
-    Directory(DirectoryFault),
-}
-
-impl From<DirectoryFault> for ReadFault {
-    ghost from_gives = { λ w r. r ≡ reading.Directory w };
-
-    fn from(fault: DirectoryFault) -> ReadFault {
-        ReadFault::Directory(fault)
-    }
-}
+pub type ReadFault = HoldFault<DirectoryFault>;
 
 /// Why no status is read.
-#[derive(Clone, Copy, PartialEq, Eq, Debug)]
-pub enum StatusFault {
-    /// No hold is granted.
-    Busy,
-    Status(Refused),
-}
+pub type StatusFault = HoldFault<Refused>;
 
-impl From<Refused> for StatusFault {
-    ghost from_gives = { λ w r. r ≡ asking.Status w };
+// By hand: a derived `From` has no contract, and clauses name the error that `?` makes.
+impl<E> From<Busy> for HoldFault<E> {
+    ghost from_gives = { λ w r. r ≡ fault.Busy };
 
-    fn from(fault: Refused) -> StatusFault {
-        StatusFault::Status(fault)
+    fn from(_: Busy) -> HoldFault<E> {
+        HoldFault::Busy
     }
 }

@@ -6,7 +6,7 @@ mod fault;
 mod read;
 mod status;
 
-pub use fault::{ReadFault, StatusFault};
+pub use fault::{HoldFault, ReadFault, StatusFault};
 pub use read::read_directory;
 pub use status::read_status;
 

@@ -21,9 +21,9 @@ fn every_hold_is_returned(rt: HostRuntime) {
     // One more than the holds that can be out.
     for _ in 0..17 {
         let mut out = [7u8; 20];
-        let none = Err(ReadFault::Directory(DirectoryFault::NoDirectory));
+        let none = Err(ReadFault::Refused(DirectoryFault::NoDirectory));
         assert_eq!(rt; read_directory(&mut node, &mut out), none);
     }
-    let none = Err(StatusFault::Status(Refused::NoDirectory));
+    let none = Err(StatusFault::Refused(Refused::NoDirectory));
     assert_eq!(rt; read_status(&mut node, 1), none);
 }

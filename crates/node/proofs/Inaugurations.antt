@@ -13,7 +13,8 @@ use Rattle.fitting.specs.Answer.{loosely, answer}
 use Rattle.inauguration.specs.declared.refused.Refused.{Refused}
 use Rattle.inauguration.specs.declared.refused.Refused.TheVariants.{Mute, Loose, Split, Mixed, Long}
 use Rattle.inauguration.specs.Answered.{refusal, held_reports, NamesLoose}
-use Rattle.runs.specs.Calls.{State, Meaning, Answer, inaugurate, told, counter, refused, barred, looked_at, named, bars, decided, rows_after, with_rows, event, Step}
+use Rattle.plan.specs.Meaning.{Meaning}
+use Rattle.runs.specs.Calls.{State, Answer, inaugurate, told, counter, refused, barred, looked_at, named, bars, decided, rows_after, with_rows, event, Step}
 use Rattle.node.specs.declared.node.Node.{Node}
 use Rattle.node.specs.Seen.{seen}
 
@@ -47,7 +48,7 @@ module _ (n : Node) where
 
   module _ (rs : List Row) (e : found ≡ Ok rs) where
     firm : found ≡ Err loosely → ⊥
-    firm f = let z : ◌≡◌ {A = ℕ} 0 1 = cc in omega arith
+    firm f = cc
 
     decides : (b : Bool) (loose : ℕ) → b ≡ bars (seen n) rs → cond b (Err barred) (Ok rs) ≡ decided (seen n) loose found
     decides b loose d = ap (λ v. cond v (Err barred) (Ok rs)) d ∙ ap (decided (seen n) loose) (sym e)

@@ -3,6 +3,4 @@ pub mod Rows
 pub mod Tables
 pub mod Scans
 pub mod Inaugurations
-pub mod Statuses
-pub mod Directories
 pub mod Plays

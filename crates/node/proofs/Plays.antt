@@ -3,7 +3,8 @@ use Rattle.std.proofs.Common.{◌≡◌, ℕ, ◌+◌, ◌<◌, ◌≤◌, min, 
 use lib.ListN as list
 use Rattle.std.proofs.lemmas.List.{append-nil, take_more, take_more_set, take_all, take_at, drop_all, drop_at, map_push, length-map, length-take, length-drop, length-append, drop-set-lt, drop-drop}
 use Rattle.std.proofs.lemmas.Bool.{cases_lt}
-use Rattle.runs.specs.Calls.{State, fresh, Meaning, Event, event, Step}
+use Rattle.plan.specs.Meaning.{Meaning}
+use Rattle.runs.specs.Calls.{State, fresh, Event, event, Step}
 use Rattle.runs.specs.Calls as model
 use Rattle.runs.specs.Histories.{History}
 use Rattle.runs.specs.Promise.{Comes, events}

@@ -1,6 +1,5 @@
 -- One call is a step. Assumes nothing.
-use Rattle.std.proofs.Common.{◌≡◌, ℕ, Bool, true, false, cond, not, List, length, Some, None, Ok, Err, Option, sym, refl, ap, ◌∙◌, subst, arith}
-use Rattle.std.proofs.lemmas.Bool.{true≢false, false≢true}
+use Rattle.std.proofs.Common.{◌≡◌, ℕ, Bool, true, false, cond, List, length, Some, None, Ok, Err, Option, sym, refl, ap, ◌∙◌, subst}
 use Rattle.report.specs.Reports.{Report}
 use Rattle.train.specs.Line.{Line}
 use Rattle.train.specs.Truth.{Awake}
@@ -9,24 +8,25 @@ use Rattle.fitting.specs.Walk.{chain_of}
 use Rattle.fitting.specs.Assemble.{assemble}
 use Rattle.fitting.specs.Answer.{mute, loosely, long, is_within, shown_rows, line_answer, chain_answer, firm_answer, answer}
 use Rattle.fitting.proofs.Loose.{one_loose}
-use Rattle.runs.specs.Calls.{State, Meaning, Call, Answer, looked_at, reply, after, writes, event, Step, Does}
+use Rattle.plan.specs.Meaning.{Meaning}
+use Rattle.runs.specs.Calls.{State, Call, Answer, looked_at, reply, after, writes, event, Step, Does}
 
 -- refusal 7 is given only where a report is loose
 line_firm : (o : Option Line) → line_answer o ≡ Err loosely → ⊥
-line_firm None e = let z : ◌≡◌ {A = ℕ} 9 7 = cc in omega arith
+line_firm None e = cc
 line_firm (Some l) e = go (is_within l) e
   where
     go : (b : Bool) → cond b (Ok (shown_rows l)) (Err long) ≡ Err loosely → ⊥
-    go true e = let z : ◌≡◌ {A = ℕ} 0 1 = cc in omega arith
-    go false e = let z : ◌≡◌ {A = ℕ} 10 7 = cc in omega arith
+    go true e = cc
+    go false e = cc
 
 chain_firm : (o : Option (List Awake)) → chain_answer o ≡ Err loosely → ⊥
-chain_firm None e = let z : ◌≡◌ {A = ℕ} 8 7 = cc in omega arith
+chain_firm None e = cc
 chain_firm (Some xs) e = line_firm (assemble xs) e
 
 own_firm : (b : Bool) (hs : List Report) → cond b (chain_answer (chain_of hs)) (Err mute) ≡ Err loosely → ⊥
 own_firm true hs e = chain_firm (chain_of hs) e
-own_firm false hs e = let z : ◌≡◌ {A = ℕ} 6 7 = cc in omega arith
+own_firm false hs e = cc
 
 abbrev Loosely : ℕ → List Report → Type 0
 Loosely own hs = (m : ℕ) × (answer own hs ≡ Err loosely → IsLoose hs m)
@@ -46,13 +46,6 @@ quiet {s = s} answered wrote left =
     let m = some_named s in
     record { loose = m.0; is_loose = m.1; answered = answered m.0; wrote = wrote; left = left }
 
--- a test, from its opposite
-pub is_not : (b v : Bool) → b ≡ not v → v ≡ not b
-is_not true false e = refl
-is_not false true e = refl
-is_not true true e = absurd (true≢false e)
-is_not false false e = absurd (false≢true e)
-
 -- a call that neither reads nor writes the output buffer leaves any as it was
 pub with_buffer :
     {plan : Meaning} {s t : State} {c d : Call} {a r : Answer} (b : List ℕ) → d ≡ c → r ≡ a → writes s c b ≡ b
@@ -60,8 +53,3 @@ pub with_buffer :
 with_buffer {plan = plan} {s = s} {t = t} b e f kept same does =
     subst (λ (x : Call × Answer). Step plan s (event x.0 x.1 b b) t) (λ i. (sym e i, sym f i))
     (record { loose = does.loose; is_loose = does.is_loose; answered = does.answered ∙ sym (same does.loose); wrote = sym kept; left = does.left })
-
--- the same step, of an equal buffer
-pub with_after :
-    {plan : Meaning} {s t : State} {c : Call} {a : Answer} {b l k : List ℕ} → Step plan s (event c a b l) t → l ≡ k → Step plan s (event c a b k) t
-with_after {plan = plan} {s = s} {t = t} {c = c} {a = a} {b = b} st e = subst (λ (o : List ℕ). Step plan s (event c a b o) t) e st

@@ -53,6 +53,9 @@ forgot_held m xs = removed_map macs mac_of numbers own_mac means m m.0 (λ _. re
 pub forgot_room : (m : Mac) (slots : List code.Report) (len : ℕ) → length (remove_leaves macs mac_of m slots (take len slots)) ≡ length slots
 forgot_room m slots len = long_removed macs mac_of m slots len
 
+pub counted : (t : Table code.Report) → length (held_in t) ≡ length (live t)
+counted t = length-map (live t) means
+
 -- a node whose table alone has changed
 pub with_table : (n : Node) (t : Table code.Report) (hs : List Report) → held_in t ≡ hs → room_of t ≡ room_of n.reports
     → seen (record { mac = n.mac; reports = t; holds = n.holds; directory = n.directory }) ≡ holding (seen n) hs

@@ -3,7 +3,8 @@ use Rattle.std.specs.Prelude.{◌≡◌, ℕ, min, List, [], ◌∷◌, map, len
 use Rattle.std.proofs.Math.ListN as list
 use Rattle.report.specs.declared.Mac.{Mac}
 use Rattle.addressing.specs.Devices.{device_means}
-use Rattle.runs.specs.Calls.{State, Meaning, granted, refused, busy}
+use Rattle.plan.specs.Meaning.{Meaning}
+use Rattle.runs.specs.Calls.{State, granted, refused, busy}
 use Rattle.runs.specs.Calls as model
 use Rattle.runs.specs.Promise.{Run, Played, history}
 use Rattle.node.specs.declared.fault.Busy.{Busy}

@@ -1,5 +1,5 @@
 -- What a node of the code keeps, in the terms of its calls. Assumes nothing.
-use Rattle.std.specs.Prelude.{ℕ, List, [], map, length}
+use Rattle.std.specs.Prelude.{ℕ, List, map, length}
 use Rattle.keyed.specs.declared.table.Table.{Table}
 use Rattle.keyed.specs.Table.{live}
 use Rattle.report.specs.declared.Report as code
@@ -15,10 +15,6 @@ held_in t = map means (live t)
 -- how many it has places for
 abbrev pub room_of : Table code.Report → ℕ
 room_of t = length t.slots.now
-
--- a node of which nothing but the reports is looked at
-abbrev pub table_alone : Table code.Report → State
-table_alone t = record { mac = 0; room = room_of t; held = held_in t; holds = 0; rows = [] }
 
 abbrev pub seen : Node → State
 seen n = record {

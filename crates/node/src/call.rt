@@ -1,10 +1,8 @@
 //! The calls of a node as plain data, and one of them made.
 
-ghost use Rattle.std.specs.Prelude.{◌≡◌};
 ghost use Rattle.runs.specs.Calls.{Step, event};
 ghost use Rattle.node.specs.Seen.{seen};
-ghost use Rattle.node.specs.Told.{hold_told};
-ghost use Rattle.node.specs.Recorded.{calling, granted_told, answer_told};
+ghost use Rattle.node.specs.Recorded.{calling, answer_told};
 
 use crate::fault::{Busy, DirectoryFault, InaugurationFault, TakeFault, Unknown};
 use crate::hold::Hold;
@@ -42,26 +40,17 @@ pub enum Answer {
     Traced(Result<Device, Refused>),
 }
 
-/// The MAC that a hold bears; the token is spent.
-fn bearing(hold: Result<Hold, Busy>) -> Result<Mac, Busy>
-    ensures { granted_told result ≡ hold_told hold }
-{
-    match hold {
-        Ok(Hold { mac }) => Ok(mac),
-        Err(busy) => Err(busy),
-    }
-}
-
 impl Node<'_> {
     /// Makes the call.
-    pub(crate) fn call<P: Plan>(&mut self, plan: &P, call: Call<'_>, out: &mut [u8]) -> Answer
-        ensures { Step (record { serves = P.serves plan.now; stands = P.stands plan.now }) (seen self.old) (event (calling call.entry) (answer_told result) out.old out.new) (seen self.new) }
+    #[tactic(auto, using(crate::proofs::Steps::with_buffer))]
+    pub fn call<P: Plan>(&mut self, plan: &P, call: Call<'_>, out: &mut [u8]) -> Answer
+        ensures { Step (P.means plan.now) (seen self.old) (event (calling call.entry) (answer_told result) out.old out.new) (seen self.new) }
     {
         match call {
             Call::Take(words) => Answer::Taken(self.take(words)),
             Call::Silence(mac) => Answer::Silenced(self.silence(mac)),
             Call::Inaugurate => Answer::Inaugurated(self.inaugurate()),
-            Call::Hold => Answer::Granted(bearing(self.hold())),
+            Call::Hold => Answer::Granted(self.hold().map(|Hold { mac }| mac)),
             Call::GiveBack(mac) => Answer::Returned(self.give_back(Hold { mac })),
             Call::Directory => Answer::Directory(self.directory(out)),
             Call::Status(number) => Answer::Status(self.status(number)),

@@ -21,6 +21,7 @@ pub enum TakeFault {
     Full,
 }
 
+// By hand, as each below: a derived `From` has no contract, and clauses name the error that `?` makes.
 impl From<WordFault> for TakeFault {
     ghost from_gives = { λ w r. r ≡ taking.Garbled w };
 

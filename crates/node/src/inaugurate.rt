@@ -4,7 +4,8 @@ ghost use Rattle.std.specs.Prelude.{◌≡◌};
 ghost use Rattle.counter.specs.Crc.{crc};
 ghost use Rattle.train.specs.Bytes.{rows_bytes};
 ghost use Rattle.directory.specs.Meaning.{rows_of};
-ghost use Rattle.runs.specs.Calls.{Meaning, Does, inaugurate as inaugurating, same_rows, bars, with_rows};
+ghost use Rattle.plan.specs.Meaning.{Meaning};
+ghost use Rattle.runs.specs.Calls.{Does, inaugurate as inaugurating, same_rows, bars, with_rows};
 ghost use Rattle.node.specs.Seen.{seen};
 ghost use Rattle.node.specs.Told.{inauguration_told};
 

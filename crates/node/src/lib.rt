@@ -11,6 +11,7 @@ mod node;
 mod questions;
 mod rehearsal;
 mod reports;
+mod show;
 mod status;
 
 pub use call::{Answer, Call};

@@ -5,11 +5,9 @@ ghost use Rattle.runs.specs.Calls.{fresh};
 ghost use Rattle.node.specs.Seen.{seen};
 
 use directory::Directory;
+use directory::limits::NODES;
 use keyed::Table;
 use report::{Mac, Report};
-
-/// A node holds no more reports than this.
-const MOST: usize = 63;
 
 /// A node over memory that it is lent.
 #[derive(Drop)]
@@ -22,19 +20,12 @@ pub struct Node<'m> {
     pub(crate) directory: Directory,
 }
 
-/// How many reports fit.
-fn room(memory: &[Report]) -> usize
-    ensures { result ≡ min (length memory.now) 63 }
-{
-    memory.len().min(MOST)
-}
-
 impl<'m> Node<'m> {
     /// Holds as many reports as fit the memory, at most 63; nothing that stands there counts.
     pub fn start(mac: Mac, memory: &'m mut [Report]) -> Node<'m>
         ensures { seen result ≡ fresh mac.0 (length memory.old) }
     {
-        let room = room(memory);
+        let room = memory.len().min(NODES);
         Node {
             mac,
             reports: Table::new(&mut memory[..room], 0),

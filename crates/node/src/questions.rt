@@ -1,10 +1,10 @@
 //! Questions: they change nothing in the node.
 
-ghost use Rattle.std.specs.Prelude.{◌≡◌, not, ◌&&◌, map, length, ◌==◌};
+ghost use Rattle.std.specs.Prelude.{◌≡◌, ◌&&◌, map, ◌==◌};
 ghost use Rattle.report.specs.Reports.{whole, means};
 ghost use Rattle.addressing.specs.Devices.{device_means};
-ghost use Rattle.addressing.specs.Addressing.{address_told, trace_told, addressed, traced};
-ghost use Rattle.runs.specs.Calls.{Meaning, Step, Does, event, directory as ask_directory, status as ask_status, address as ask_address, trace as ask_trace, is_awake as awake_among};
+ghost use Rattle.plan.specs.Meaning.{Meaning};
+ghost use Rattle.runs.specs.Calls.{Step, Does, event, directory as ask_directory, status as ask_status, address as ask_address, trace as ask_trace, is_awake as awake_among};
 ghost use Rattle.node.specs.Seen.{seen};
 ghost use Rattle.node.specs.Told.{directory_told, is_awake_told, status_told, address_answer, trace_answer};
 
@@ -19,30 +19,17 @@ use report::{Report, Uuid};
 fn is_of(report: &Report, uuid: Uuid, position: u8) -> bool
     ensures { result ≡ ((means report.now).uuid == whole uuid) && (report.now.position == position) }
 {
-    let Uuid { high, low } = report.uuid;
-    high == uuid.high && low == uuid.low && report.position == position
+    report.uuid.is_same(uuid) && report.position == position
 }
 
 /// Whether a report held is of the node at this position of this consist.
 fn is_awake(held: &[Report], uuid: Uuid, position: u8) -> bool
     ensures { result ≡ awake_among (whole uuid) position (map means held.now) }
 {
-    for report in held {
-        if is_of(report, uuid, position) {
-            return true;
-        }
-    }
-    false
+    held.iter().any(|report| is_of(report, uuid, position))
 }
 
 impl Node<'_> {
-    /// Whether a directory is in force.
-    fn has_directory(&self) -> bool
-        ensures { result ≡ not (length (seen self.now).rows == 0) }
-    {
-        self.directory.row_count() != 0
-    }
-
     /// Whether the node at this position of this consist is awake.
     fn presence(&self, uuid: Uuid, position: u8) -> Presence
         ensures { is_awake_told result ≡ awake_among (whole uuid) position (seen self.now).held }
@@ -54,41 +41,26 @@ impl Node<'_> {
         }
     }
 
-    /// As the directory and the plan say.
-    fn address_of<P: Plan>(&self, plan: &P, device: Device) -> Result<u32, Refused>
-        ensures { address_told result ≡ addressed (P.serves plan.now) (seen self.now).rows (device_means device) }
-    {
-        addressing::address(&self.directory, plan, device)
-    }
-
-    /// As the plan and the directory say.
-    fn device_at<P: Plan>(&self, plan: &P, address: u32) -> Result<Device, Refused>
-        ensures { trace_told result ≡ traced (P.stands plan.now) (seen self.now).rows address }
-    {
-        addressing::trace(&self.directory, plan, address)
-    }
-
     /// Writes the rows of the directory in force, 20 bytes each, at the front of the buffer and answers their number.
+    #[tactic(auto, using(crate::proofs::Steps::quiet))]
     pub fn directory(&self, out: &mut [u8]) -> Result<usize, DirectoryFault>
         ensures { (plan : Meaning) → Step plan (seen self.now) (event ask_directory (directory_told result) out.old out.new) (seen self.now) }
     {
-        if !self.has_directory() {
+        if !self.directory.is_in_force() {
             return Err(DirectoryFault::NoDirectory);
         }
-        let count = self.directory.write(out)?;
-        Ok(count)
+        Ok(self.directory.write(out)?)
     }
 
     /// The consist and the position of the node with this number, and whether it is awake.
+    #[tactic(auto, using(crate::proofs::Steps::quiet))]
     pub fn status(&self, number: u8) -> Result<Status, Refused>
         ensures { (plan : Meaning) → Does plan (seen self.now) (ask_status number) (status_told result) (seen self.now) }
     {
-        if !self.has_directory() {
+        if !self.directory.is_in_force() {
             return Err(Refused::NoDirectory);
         }
-        let Some((uuid, position)) = self.directory.node(number) else {
-            return Err(Refused::Absent);
-        };
+        let (uuid, position) = self.directory.node(number).ok_or(Refused::Absent)?;
         Ok(Status {
             uuid,
             position,
@@ -97,16 +69,18 @@ impl Node<'_> {
     }
 
     /// The address that the plan gives to a device.
+    #[tactic(auto, using(crate::proofs::Steps::quiet))]
     pub fn address<P: Plan>(&self, plan: &P, device: Device) -> Result<u32, Refused>
-        ensures { Does (record { serves = P.serves plan.now; stands = P.stands plan.now }) (seen self.now) (ask_address (device_means device)) (address_answer result) (seen self.now) }
+        ensures { Does (P.means plan.now) (seen self.now) (ask_address (device_means device)) (address_answer result) (seen self.now) }
     {
-        self.address_of(plan, device)
+        addressing::address(&self.directory, plan, device)
     }
 
     /// The device that has the address under the plan.
+    #[tactic(auto, using(crate::proofs::Steps::quiet))]
     pub fn trace<P: Plan>(&self, plan: &P, address: u32) -> Result<Device, Refused>
-        ensures { Does (record { serves = P.serves plan.now; stands = P.stands plan.now }) (seen self.now) (ask_trace address) (trace_answer result) (seen self.now) }
+        ensures { Does (P.means plan.now) (seen self.now) (ask_trace address) (trace_answer result) (seen self.now) }
     {
-        self.device_at(plan, address)
+        addressing::trace(&self.directory, plan, address)
     }
 }

@@ -7,8 +7,9 @@ ghost use Rattle.keyed.specs.Find.{found};
 ghost use Rattle.keyed.specs.Store.{store_keeps};
 ghost use Rattle.keyed.specs.Remove.{removed};
 ghost use Rattle.report.specs.Reports.{means};
-ghost use Rattle.runs.specs.Calls.{Meaning, Does, take as taking, silence as silencing, own_mac, let_through, stored_count, held_with, take_answer, silence_answer, told, held};
-ghost use Rattle.node.specs.Seen.{held_in, room_of, table_alone, seen};
+ghost use Rattle.plan.specs.Meaning.{Meaning};
+ghost use Rattle.runs.specs.Calls.{Does, take as taking, silence as silencing, own_mac, let_through, stored_count};
+ghost use Rattle.node.specs.Seen.{held_in, room_of, seen};
 ghost use Rattle.node.specs.Told.{through_told, keep_told, take_told, silence_told};
 
 use crate::fault::{TakeFault, Unknown};
@@ -27,7 +28,9 @@ fn let_through(words: &[u32]) -> Result<Report, TakeFault>
     Ok(report)
 }
 
+// What the table's calls do, in a node's terms: proofs of the calls below cite these, and do not close without.
 /// Keeps a report, in place of an earlier one of its MAC, and answers how many are kept then.
+#[tactic(auto, using(crate::proofs::Tables::kept_answer, crate::proofs::Tables::kept_held, crate::proofs::Tables::kept_room))]
 fn keep(reports: &mut Table<'_, Report>, report: Report) -> Result<usize, Full>
     ensures answer { keep_told result ≡ stored_count (room_of reports.old) (held_in reports.old) (means report) }
     ensures held { held_in reports.new ≡ store_keeps numbers own_mac (means report) (room_of reports.old) (held_in reports.old) }
@@ -37,6 +40,7 @@ fn keep(reports: &mut Table<'_, Report>, report: Report) -> Result<usize, Full>
 }
 
 /// Keeps the report of a MAC no longer, and answers it.
+#[tactic(auto, using(crate::proofs::Tables::forgot_answer, crate::proofs::Tables::forgot_held, crate::proofs::Tables::forgot_room))]
 fn forget(reports: &mut Table<'_, Report>, mac: Mac) -> Option<Report>
     ensures answer { option_map means result ≡ found numbers own_mac mac.0 (held_in reports.old) }
     ensures held { held_in reports.new ≡ removed numbers own_mac mac.0 (held_in reports.old) }
@@ -46,47 +50,29 @@ fn forget(reports: &mut Table<'_, Report>, mac: Mac) -> Option<Report>
 }
 
 /// How many reports are kept.
+#[tactic(auto, using(crate::proofs::Tables::counted))]
 fn count(reports: &Table<'_, Report>) -> usize
     ensures { result ≡ length (held_in reports.now) }
 {
     reports.len()
 }
 
-/// Keeps the report in the words, if it is let through.
-fn take(reports: &mut Table<'_, Report>, words: &[u32]) -> Result<usize, TakeFault>
-    ensures answer { take_told result ≡ told held (take_answer (table_alone reports.old) words.now) }
-    ensures held { held_in reports.new ≡ held_with (room_of reports.old) (held_in reports.old) (let_through words.now) }
-    ensures room { room_of reports.new ≡ room_of reports.old }
-{
-    let report = let_through(words)?;
-    let count = keep(reports, report)?;
-    Ok(count)
-}
-
-/// Keeps the report of a MAC no longer, and answers how many are left.
-fn silence(reports: &mut Table<'_, Report>, mac: Mac) -> Result<usize, Unknown>
-    ensures answer { silence_told result ≡ told held (silence_answer (table_alone reports.old) mac.0) }
-    ensures held { held_in reports.new ≡ removed numbers own_mac mac.0 (held_in reports.old) }
-    ensures room { room_of reports.new ≡ room_of reports.old }
-{
-    match forget(reports, mac) {
-        Some(_) => Ok(count(reports)),
-        None => Err(Unknown),
-    }
-}
-
 impl Node<'_> {
     /// Holds the report in the words, in place of an earlier one of its MAC, and answers how many are held then.
+    #[tactic(auto, using(crate::proofs::Steps::quiet, crate::proofs::Tables::with_table))]
     pub fn take(&mut self, words: &[u32]) -> Result<usize, TakeFault>
         ensures { (plan : Meaning) → Does plan (seen self.old) (taking words.now) (take_told result) (seen self.new) }
     {
-        take(&mut self.reports, words)
+        let report = let_through(words)?;
+        Ok(keep(&mut self.reports, report)?)
     }
 
     /// Holds the report of this MAC no longer, and answers how many are held then.
+    #[tactic(auto, using(crate::proofs::Steps::quiet, crate::proofs::Tables::with_table))]
     pub fn silence(&mut self, mac: Mac) -> Result<usize, Unknown>
         ensures { (plan : Meaning) → Does plan (seen self.old) (silencing mac.0) (silence_told result) (seen self.new) }
     {
-        silence(&mut self.reports, mac)
+        forget(&mut self.reports, mac).ok_or(Unknown)?;
+        Ok(count(&self.reports))
     }
 }

@@ -1,5 +1,5 @@
 -- What is promised of two nodes holds of every run. Assumes nothing.
-use Rattle.std.proofs.Common.{◌≡◌, ℕ, ◌*◌, ◌≤◌, Bool, true, false, cond, List, [], ◌∷◌, ◌++◌, map, length, Ok, Err, Result, sym, refl, ap, ◌∙◌, subst, inl, inr, arith}
+use Rattle.std.proofs.Common.{◌≡◌, ℕ, ◌*◌, ◌≤◌, Bool, true, false, cond, List, [], ◌∷◌, ◌++◌, map, length, Ok, Err, Result, sym, refl, ap, ◌∙◌, subst, inl, inr}
 use Rattle.std.proofs.lemmas.Bool.{cases_lt}
 use Rattle.keyed.specs.Table.{written}
 use Rattle.counter.specs.Crc.{crc}
@@ -12,15 +12,15 @@ use Rattle.train.proofs.Agreed.{one_directory}
 use Rattle.directory.specs.Writing.{write_leaves}
 use Rattle.fitting.specs.Neighbours.{IsLoose}
 use Rattle.fitting.specs.Answer.{loosely, answer}
-use Rattle.plan.specs.Meaning.{Lawful}
+use Rattle.plan.specs.Meaning.{Meaning, Lawful}
 use Rattle.addressing.specs.Devices.{Device, host, node}
 use Rattle.addressing.specs.Addressing.{addressed}
 use Rattle.addressing.specs.OwnAddresses.{HasPlace}
-use Rattle.runs.specs.Calls.{State, Meaning, Call, take, silence, inaugurate, hold, give_back, directory, status, address, trace, Answer, counter, rows, at_address, device, barred, told, bars, directory_answer, looked_at, reply, after, writes, Event, event, Step}
+use Rattle.runs.specs.Calls.{State, Call, take, silence, inaugurate, hold, give_back, directory, status, address, trace, Answer, counter, rows, at_address, device, barred, told, bars, directory_answer, looked_at, reply, after, writes, Event, event, Step}
 use Rattle.runs.specs.Histories.{History, Part, Accepted, LastAccepted, LineFits, LastLine, InForce, Bars}
 use Rattle.runs.specs.Right.{RightInaugurate, HasAddress, RightAnswer, Right}
 use Rattle.runs.specs.Promise.{Run, Played, history, NodeRight, OwnAddressAt, NodesAgree, EveryRun}
-use Rattle.runs.proofs.Holding.{answer_kind, fits_held}
+use Rattle.runs.proofs.Holding.{fits_held}
 use Rattle.runs.proofs.Forces.{force_now, force_line, same_last, one_rows, some_row}
 use Rattle.runs.proofs.Holds.{out_is, holds_step}
 use Rattle.runs.proofs.Steps.{Kept, kept_fresh, held_step, force_step, looked, found_so, answers, line_now, free_so}
@@ -33,7 +33,7 @@ rows_count n m e = cc
 
 told_ok : (x : ℕ) (o : Result ℕ Refusal) → at_address x ≡ told at_address o → o ≡ Ok x
 told_ok x (Ok y) e = cc
-told_ok x (Err f) e = absurd (let g : ⊥ = omega (arith, ap answer_kind e) in g)
+told_ok x (Err f) e = cc
 
 module _ (plan : Meaning) (lawful : Lawful plan.serves plan.stands) (mac places : ℕ) where
   -- One step.
@@ -133,14 +133,14 @@ module _ (plan : Meaning) (lawful : Lawful plan.serves plan.stands) (mac places 
       where
         pick : (rs : List Row) (b : Bool) → answer mac s.held ≡ Ok rs → bars s rs ≡ b
             → counter acc.value ≡ told (λ qs. counter (crc (rows_bytes qs))) (cond b (Err barred) (Ok rs)) → (l : Line) × LineFits mac h l × (Bars mac h l → ⊥)
-        pick rs true f b p = absurd (let g : ⊥ = omega (arith, ap answer_kind p) in g)
+        pick rs true f b p = cc
         pick rs false f b p =
             let c = (answers mac places h s k).accepted rs f in
             (c.0, line_now mac places h s k c.0 c.1 c.2 c.3, free_so mac places h s k c.0 (sym (ap (bars s) c.4) ∙ b))
 
         go : (o : Result (List Row) ℕ) → answer mac s.held ≡ o → counter acc.value ≡ inaugurated_as s st.loose o → (l : Line) × LineFits mac h l × (Bars mac h l → ⊥)
         go (Ok rs) f p = pick rs (bars s rs) f refl p
-        go (Err n) f p = absurd (let g : ⊥ = omega (arith, ap answer_kind p) in g)
+        go (Err n) f p = cc
 
     answers_line : e.call ≡ inaugurate → (l : Line) → LineFits mac h l → (Bars mac h l → ⊥) → e.answer ≡ counter (line_counter l)
     answers_line c l f n = (rights c).accepted l (fits_held h f.hs s.held l f.are_held k.are_held f.fitting) f.within f.awake n
@@ -161,7 +161,7 @@ module _ (plan : Meaning) (lawful : Lawful plan.serves plan.stands) (mac places 
         (st.wrote ∙ ap (λ x. writes s x e.before) c ∙ ap (λ rs. write_leaves rs e.before) same) in
         let some = some_row l last.line.fitting.0 in
         elim (cases_lt (length e.before) (20 * length (line_rows l))) [
-          | inl less ↦ absurd (let g : ⊥ = omega (arith, ap answer_kind (sym a ∙ (right.short some less).0)) in g)
+          | inl less ↦ (let z = sym a ∙ (right.short some less).0 in cc)
           | inr fits ↦ (let w = right.whole some fits in (rows_count n (length (line_rows l)) (sym a ∙ w.0), w.1))
         ]
 

@@ -1,5 +1,5 @@
 -- The directory in force, as a history grows by one event, and what fixes it. Assumes nothing.
-use Rattle.std.proofs.Common.{◌≡◌, ℕ, ◌≤◌, List, [], ◌∷◌, ◌++◌, length, sym, refl, ap, ◌∙◌, subst, inl, inr, arith}
+use Rattle.std.proofs.Common.{◌≡◌, ℕ, ◌≤◌, List, [], ◌∷◌, ◌++◌, length, sym, refl, ap, ◌∙◌, subst, inl, inr}
 use Rattle.report.specs.Refusals.{Refusal}
 use Rattle.train.specs.Line.{Line}
 use Rattle.train.specs.Rules.{IsLine}
@@ -7,15 +7,15 @@ use Rattle.train.specs.Rows.{Row, rows as line_rows}
 use Rattle.train.specs.Bytes.{counter as line_counter}
 use Rattle.train.proofs.Agreed.{one_directory}
 use Rattle.train.proofs.Numbered.{numbered}
-use Rattle.runs.specs.Calls.{refused, Event}
+use Rattle.runs.specs.Calls.{inaugurate, refused, Event}
 use Rattle.runs.specs.Histories.{History, Accepted, NoneAccepted, LastAccepted, LineFits, LastLine, InForce}
-use Rattle.runs.proofs.Holding.{call_kind, answer_kind, fits_held}
+use Rattle.runs.proofs.Holding.{fits_held}
 
-pub not_inauguration : (e : Event) → (call_kind e.call ≡ 2 → ⊥) → Accepted e → ⊥
-not_inauguration e n a = n (ap call_kind a.call)
+pub not_inauguration : (e : Event) → (e.call ≡ inaugurate → ⊥) → Accepted e → ⊥
+not_inauguration e n a = n a.call
 
 pub not_granted : (e : Event) (f : Refusal) → e.answer ≡ refused f → Accepted e → ⊥
-not_granted e f p a = omega (arith, ap answer_kind (sym p ∙ a.answer))
+not_granted e f p a = let z = sym p ∙ a.answer in cc
 
 last_more : (mac : ℕ) (h : History) (e : Event) (l : Line) → (Accepted e → ⊥) → LastLine mac h l → LastLine mac (e ∷ h) l
 last_more mac h e l n k = record {

@@ -1,5 +1,5 @@
 -- What is held, as a history grows by one event. Assumes nothing.
-use Rattle.std.proofs.Common.{◌≡◌, ℕ, ◌≤◌, ◌⊎◌, List, [], ◌∷◌, ◌++◌, None, Ok, Result, sym, refl, ap, ◌∙◌, subst, inl, inr, arith}
+use Rattle.std.proofs.Common.{◌≡◌, ℕ, ◌⊎◌, List, [], ◌∷◌, ◌++◌, None, Ok, Result, sym, refl, ap, ◌∙◌, subst, inl, inr}
 use Rattle.std.specs.List.{AllByRecursion}
 use Rattle.keyed.specs.Orders.{numbers}
 use Rattle.keyed.specs.Find.{found}
@@ -13,32 +13,9 @@ use Rattle.train.specs.Truth.{In}
 use Rattle.fitting.specs.Theorems.{AreReports, Fitting}
 use Rattle.fitting.proofs.Found.{in_none}
 use Rattle.fitting.proofs.Steps.{none_some}
-use Rattle.runs.specs.Calls.{Call, take, silence, inaugurate, hold, give_back, directory, status, address, trace, Answer, held, counter, granted, returned, rows, node, at_address, device, refused, own_mac, Event}
+use Rattle.runs.specs.Calls.{take, silence, refused, own_mac, Event}
 use Rattle.runs.specs.Histories.{History, Takes, Silences, Replaces, Held, ReportsHeld}
 use Rattle.runs.proofs.Tables.{Rises, in_found, of_stored, stored_in, still_stored, of_removed, still_there, removed_rises, rises_differ}
-
--- calls and answers by number, to tell them apart
-abbrev pub call_kind : Call → ℕ
-call_kind (take ws) = 0
-call_kind (silence m) = 1
-call_kind inaugurate = 2
-call_kind hold = 3
-call_kind (give_back m) = 4
-call_kind directory = 5
-call_kind (status n) = 6
-call_kind (address d) = 7
-call_kind (trace x) = 8
-
-abbrev pub answer_kind : Answer → ℕ
-answer_kind (held n) = 0
-answer_kind (counter c) = 1
-answer_kind (granted m) = 2
-answer_kind (returned b) = 3
-answer_kind (rows n) = 4
-answer_kind (node u k b) = 5
-answer_kind (at_address a) = 6
-answer_kind (device d) = 7
-answer_kind (refused f) = 8
 
 pub ok_same : {A : Type 0} (x y : A) → ◌≡◌ {A = Result A Refusal} (Ok x) (Ok y) → x ≡ y
 ok_same x y e = cc
@@ -74,8 +51,8 @@ pub held_cases : (h : History) (e : Event) (r : Report) → Held (e ∷ h) r →
 held_cases h e r k = cases_at r h e k.since k.earlier k.taking k.parts k.takes k.kept
 
 none_at : (since earlier : History) (t : Event) → ◌≡◌ {A = History} [] (since ++ t ∷ earlier) → ⊥
-none_at [] earlier t p = let z : ◌≡◌ {A = ℕ} 0 1 = cc in omega arith
-none_at (d ∷ ds) earlier t p = let z : ◌≡◌ {A = ℕ} 0 1 = cc in omega arith
+none_at [] earlier t p = cc
+none_at (d ∷ ds) earlier t p = cc
 
 pub held_none : ReportsHeld [] []
 held_none = record { rising = tt; each = λ r i. absurd (in_none i); all = λ r k. absurd (none_at k.since k.earlier k.taking k.parts) }
@@ -84,13 +61,13 @@ held_none = record { rising = tt; each = λ r i. absurd (in_none i); all = λ r 
 abbrev pub Quiet : Event → Type 0
 Quiet e = (m : ℕ) → Replaces m e → ⊥
 
-pub quiet_call : (e : Event) → 2 ≤ call_kind e.call → Quiet e
-quiet_call e k m (inl (q, same, t)) = omega (arith, ap call_kind t.call)
-quiet_call e k m (inr s) = omega (arith, ap call_kind s.call)
+pub quiet_call : (e : Event) → ((ws : List ℕ) → e.call ≡ take ws → ⊥) → ((m : ℕ) → e.call ≡ silence m → ⊥) → Quiet e
+quiet_call e k l m (inl (q, same, t)) = k t.words t.call
+quiet_call e k l m (inr s) = l m s.call
 
 pub quiet_refused : (e : Event) (f : Refusal) → e.answer ≡ refused f → Quiet e
-quiet_refused e f a m (inl (q, same, t)) = omega (arith, ap answer_kind (sym a ∙ t.answer))
-quiet_refused e f a m (inr s) = omega (arith, ap answer_kind (sym a ∙ s.answer))
+quiet_refused e f a m (inl (q, same, t)) = let z = sym a ∙ t.answer in cc
+quiet_refused e f a m (inr s) = let z = sym a ∙ s.answer in cc
 
 module _ (h : History) (e : Event) (hs : List Report) (k : ReportsHeld h hs) where
   quiet_cases : Quiet e → (r : Report) → Held (e ∷ h) r → Held h r

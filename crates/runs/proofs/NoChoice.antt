@@ -26,11 +26,11 @@ use Rattle.fitting.proofs.Steps.{none_some}
 use Rattle.fitting.proofs.Loose.{held_tells, none_loose}
 use Rattle.directory.specs.Asked.{place_of}
 use Rattle.directory.specs.Writing.{write_leaves}
-use Rattle.plan.specs.Meaning.{Lawful}
+use Rattle.plan.specs.Meaning.{Meaning, Lawful}
 use Rattle.addressing.specs.Devices.{Device}
 use Rattle.addressing.specs.Addressing.{addressed, traced}
 use Rattle.addressing.proofs.OwnAddresses.{node_of, node_only}
-use Rattle.runs.specs.Calls.{State, Meaning, Call, take, silence, inaugurate, hold, give_back, directory, status, address, trace, Answer, held, counter, granted, returned, rows, node, at_address, device, refused, full, unknown, barred, busy, told, onward, own_mac, stored_count, take_answer, silence_answer, bars, looked_at, named, hold_answer, is_returned, directory_answer, is_awake, status_answer, reply, writes, Event, event}
+use Rattle.runs.specs.Calls.{State, Call, take, silence, inaugurate, hold, give_back, directory, status, address, trace, Answer, held, counter, granted, returned, rows, node, at_address, device, refused, full, unknown, barred, busy, told, onward, own_mac, stored_count, take_answer, silence_answer, bars, looked_at, named, hold_answer, is_returned, directory_answer, is_awake, status_answer, reply, writes, Event, event}
 use Rattle.runs.specs.Histories.{History, ReportsHeld, out, LastLine}
 use Rattle.runs.specs.Right.{Has, RightTake, RightSilence, RightInaugurate, RightHold, RightGiveBack, RightDirectory, HasPosition, IsNodeNumber, RightStatus, HasAddress, RightAddress, RightTrace, RightAnswer, Right}
 use Rattle.runs.specs.Promise.{SameAnswer}
@@ -42,7 +42,7 @@ use Rattle.runs.proofs.Rights.{crossed_so, crossed_tells, has_found, inaugurated
 use Rattle.runs.proofs.Questions.{written_none, right_directory, awake_so, awake_tells, right_status, own_of, right_address, right_trace}
 
 ok_err : {A : Type 0} (x : A) (f : Refusal) → ◌≡◌ {A = Result A Refusal} (Ok x) (Err f) → ⊥
-ok_err x f e = let z : ◌≡◌ {A = ℕ} 0 1 = cc in omega arith
+ok_err x f e = cc
 
 err_same : (n m : ℕ) → ◌≡◌ {A = Result (List Row) ℕ} (Err n) (Err m) → n ≡ m
 err_same n m e = cc
@@ -53,7 +53,7 @@ above_in k [] x a i = absurd (in_none i)
 above_in k (y ∷ ys) x a i = elim (in_cases i) [ inl e ↦ ap (λ (q : Report). numbers k q.mac) e ∙ a.0 | inr j ↦ above_in k ys x a.1 j ]
 
 not_less : (k : ℕ) → numbers k k ≡ Less → ⊥
-not_less k l = let s = total_numbers.itself k in let z : ◌≡◌ {A = ℕ} 0 1 = cc in omega arith
+not_less k l = let s = total_numbers.itself k in cc
 
 both_less : (j k : ℕ) → numbers j k ≡ Less → numbers k j ≡ Less → ⊥
 both_less j k l m = not_less j (total_numbers.carries j k j l m)

@@ -1,5 +1,5 @@
 -- Each answer to a question, and about holds, is right for the events before it. Assumes nothing.
-use Rattle.std.proofs.Common.{◌≡◌, ℕ, ◌*◌, ◌≤◌, Bool, true, false, cond, ◌&&◌, eqb, ltb, leb, List, [], ◌∷◌, length, Ok, Err, Result, sym, ap, ◌∙◌, inl, inr, arith}
+use Rattle.std.proofs.Common.{◌≡◌, ℕ, ◌*◌, ◌≤◌, Bool, true, false, cond, ◌&&◌, eqb, ltb, leb, List, [], ◌∷◌, length, option_and_then, Ok, Err, Result, sym, ap, ◌∙◌, inl, inr, arith}
 use Rattle.std.proofs.lemmas.Bool.{cases_Bool, cond-true, cond-false, and_parts, and_from, and_left, and_right, or_cases, or_left, or_right, eqb-true, eq-eqb, ne_eqb, lt-ltb, le-ltb, le-leb, lt-leb, false≢true}
 use Rattle.report.specs.Reports.{Report}
 use Rattle.report.specs.Refusals.{Refusal, short}
@@ -9,12 +9,12 @@ use Rattle.train.specs.Rows.{Row, rows as line_rows}
 use Rattle.directory.specs.Asked.{place_of}
 use Rattle.directory.specs.Writing.{write_answer, write_leaves}
 use Rattle.fitting.proofs.Found.{in_cases, in_none}
-use Rattle.plan.specs.Meaning.{Lawful}
-use Rattle.addressing.specs.Devices.{Device, through, device_place, device_at}
+use Rattle.plan.specs.Meaning.{Meaning, Lawful}
+use Rattle.addressing.specs.Devices.{Device, device_place, device_at}
 use Rattle.addressing.specs.Addressing.{no_directory, in_force, addressed, traced}
 use Rattle.addressing.specs.OwnAddresses.{OwnAddresses}
 use Rattle.addressing.proofs.OwnAddresses.{in_force_some, in_force_none, own_address, node_of, node_only}
-use Rattle.runs.specs.Calls.{State, Meaning, Answer, granted, returned, rows, node, at_address, device, busy, told, hold_answer, is_returned, directory_answer, is_awake, status_answer}
+use Rattle.runs.specs.Calls.{State, Answer, granted, returned, rows, node, at_address, device, busy, told, hold_answer, is_returned, directory_answer, is_awake, status_answer}
 use Rattle.runs.specs.Histories.{History, out, LastLine, InForce}
 use Rattle.runs.specs.Right.{RightHold, RightGiveBack, RightDirectory, HasPosition, IsNodeNumber, RightStatus, RightAddress, RightTrace}
 use Rattle.runs.proofs.Forces.{force_line, force_none, some_row}
@@ -115,8 +115,8 @@ module _ (mac : ℕ) (h : History) (s : State) (f : InForce mac h s.rows) where
       none = λ z. p ∙ ap (λ rs. told at_address (addressed plan.serves rs d)) (force_none mac h s.rows f z);
       served = λ l k x has. asked_address d a l k p ∙ ap (told at_address) ((own_of l k).gets d has.place x has.has_place has.served);
       absent = λ l k no. asked_address d a l k p ∙ ap (told at_address)
-          (in_force_none (line_rows l) (through plan.serves (device_place (line_rows l) d)) (some_rows l k)
-          (λ x e. (let g = (own_of l k).gets_only d x (in_force_some (line_rows l) (through plan.serves (device_place (line_rows l) d)) x (some_rows l k) e) in
+          (in_force_none (line_rows l) (option_and_then plan.serves (device_place (line_rows l) d)) (some_rows l k)
+          (λ x e. (let g = (own_of l k).gets_only d x (in_force_some (line_rows l) (option_and_then plan.serves (device_place (line_rows l) d)) x (some_rows l k) e) in
           no x (record { place = g.0; has_place = g.1; served = g.2 }))));
     }
 
@@ -125,8 +125,8 @@ module _ (mac : ℕ) (h : History) (s : State) (f : InForce mac h s.rows) where
       none = λ z. p ∙ ap (λ rs. told device (traced plan.stands rs x)) (force_none mac h s.rows f z);
       found = λ l k d has. asked l k ∙ ap (told device) ((own_of l k).back d has.place x has.has_place has.served);
       absent = λ l k no. asked l k ∙ ap (told device)
-          (in_force_none (line_rows l) (through (device_at (line_rows l)) (plan.stands x)) (some_rows l k)
-          (λ d e. (let g = (own_of l k).back_only d x (in_force_some (line_rows l) (through (device_at (line_rows l)) (plan.stands x)) d (some_rows l k) e) in
+          (in_force_none (line_rows l) (option_and_then (device_at (line_rows l)) (plan.stands x)) (some_rows l k)
+          (λ d e. (let g = (own_of l k).back_only d x (in_force_some (line_rows l) (option_and_then (device_at (line_rows l)) (plan.stands x)) d (some_rows l k) e) in
           no d (record { place = g.0; has_place = g.1; served = g.2 }))));
     }
       where

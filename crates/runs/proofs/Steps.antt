@@ -22,10 +22,11 @@ use Rattle.fitting.specs.Answer.{answer}
 use Rattle.fitting.specs.Theorems.{Answers, Fitting, AwakeIn}
 use Rattle.fitting.proofs.Assembling.{way_same}
 use Rattle.fitting.proofs.Answers.{answers as fitting_answers}
-use Rattle.runs.specs.Calls.{State, fresh, Meaning, Call, take, silence, inaugurate, hold, give_back, directory, status, address, trace, Answer, held, counter, full, unknown, barred, told, onward, own_mac, let_through, stored_count, held_with, same_row, same_rows, bars, looked_at, named, decided, rows_after, reply, after, Event, event}
+use Rattle.plan.specs.Meaning.{Meaning}
+use Rattle.runs.specs.Calls.{State, fresh, Call, take, silence, inaugurate, hold, give_back, directory, status, address, trace, Answer, held, counter, full, unknown, barred, told, onward, own_mac, let_through, stored_count, held_with, same_row, same_rows, bars, looked_at, named, decided, rows_after, reply, after, Event, event}
 use Rattle.runs.specs.Histories.{History, ReportsHeld, LineFits, InForce, Bars}
 use Rattle.runs.proofs.Tables.{keeps_rises}
-use Rattle.runs.proofs.Holding.{call_kind, Quiet, quiet_call, quiet_refused, held_keep, held_take, held_silence, held_unknown, held_none, are_reports, ok_same, same_words, same_mac}
+use Rattle.runs.proofs.Holding.{Quiet, quiet_call, quiet_refused, held_keep, held_take, held_silence, held_unknown, held_none, are_reports, ok_same, same_words, same_mac}
 use Rattle.runs.proofs.Forces.{not_inauguration, not_granted, force_more, force_now, one_force}
 use Rattle.runs.proofs.Holds.{Out, out_is}
 
@@ -54,12 +55,12 @@ pub through_read : (ws : List ℕ) (r : Report) → let_through ws ≡ Ok r → 
 through_read ws r e = go (read ws) refl e
   where
     pick : (q : Report) (b : Bool) → is_crossed q ≡ b → read ws ≡ Ok q → ◌≡◌ {A = Result Report Refusal} (cond b (Err crossed) (Ok q)) (Ok r) → (read ws ≡ Ok r) × (is_crossed r ≡ false)
-    pick q true c p e = let z : ◌≡◌ {A = ℕ} 0 1 = cc in absurd (let g : ⊥ = omega arith in g)
+    pick q true c p e = cc
     pick q false c p e = let s : q ≡ r = cc in (p ∙ ap Ok s, sym (ap is_crossed s) ∙ c)
 
     go : (o : Result Report Refusal) → read ws ≡ o → onward o (λ q. cond (is_crossed q) (Err crossed) (Ok q)) ≡ Ok r → (read ws ≡ Ok r) × (is_crossed r ≡ false)
     go (Ok q) p e = pick q (is_crossed q) refl p e
-    go (Err f) p e = let z : ◌≡◌ {A = ℕ} 0 1 = cc in absurd (let g : ⊥ = omega arith in g)
+    go (Err f) p e = cc
 
 module _ (h : History) (hs : List Report) (room : ℕ) (k : ReportsHeld h hs) (few : length hs ≤ room) where
   abbrev Holding : Event → List Report → Type 0
@@ -74,12 +75,12 @@ module _ (h : History) (hs : List Report) (room : ℕ) (k : ReportsHeld h hs) (f
       let rises = subst (λ (gs : List Report). Rising numbers own_mac gs) (ap (λ z. cond z hs (stored numbers own_mac r hs)) t) (keeps_rises hs r room k.rising) in
       held_take h (event (take ws) a b l) hs k r (record { words = ws; count = n; call = refl; read = rd; answer = p })
       (λ q y. (let w : ws ≡ y.words = same_words ws y.words y.call in ok_same q r (sym y.read ∙ sym (ap read w) ∙ rd)))
-      (λ m y. omega (arith, ap call_kind y.call)) rises
+      (λ m y. let z = y.call in cc) rises
 
   pub silenced_held : (m : ℕ) (a : Answer) (b l : List ℕ) (n : ℕ) → a ≡ held n → ReportsHeld (event (silence m) a b l ∷ h) (removed numbers own_mac m hs)
   silenced_held m a b l n p =
       held_silence h (event (silence m) a b l) hs k m (record { count = n; call = refl; answer = p })
-      (λ q y. omega (arith, ap call_kind y.call)) (λ j y. sym (same_mac m j y.call))
+      (λ q y. let z = y.call in cc) (λ j y. sym (same_mac m j y.call))
 
   take_step : (ws : List ℕ) (a : Answer) (b l : List ℕ) → a ≡ told held (onward (let_through ws) (stored_count room hs))
       → Holding (event (take ws) a b l) (held_with room hs (let_through ws))
@@ -118,13 +119,13 @@ pub held_step : (plan : Meaning) (h : History) (s : State) (loose : ℕ) (c : Ca
     → a ≡ reply plan s loose (length b) c → ReportsHeld (event c a b l ∷ h) (after s c).held × (length (after s c).held ≤ s.room)
 held_step plan h s loose (take ws) a b l k few p = take_step h s.held s.room k few ws a b l p
 held_step plan h s loose (silence m) a b l k few p = silence_step h s.held s.room k few m a b l p
-held_step plan h s loose inaugurate a b l k few p = quiet h s.held s.room k few (event inaugurate a b l) (quiet_call (event inaugurate a b l) (omega arith))
-held_step plan h s loose hold a b l k few p = quiet h s.held s.room k few (event hold a b l) (quiet_call (event hold a b l) (omega arith))
-held_step plan h s loose (give_back m) a b l k few p = quiet h s.held s.room k few (event (give_back m) a b l) (quiet_call (event (give_back m) a b l) (omega arith))
-held_step plan h s loose directory a b l k few p = quiet h s.held s.room k few (event directory a b l) (quiet_call (event directory a b l) (omega arith))
-held_step plan h s loose (status n) a b l k few p = quiet h s.held s.room k few (event (status n) a b l) (quiet_call (event (status n) a b l) (omega arith))
-held_step plan h s loose (address d) a b l k few p = quiet h s.held s.room k few (event (address d) a b l) (quiet_call (event (address d) a b l) (omega arith))
-held_step plan h s loose (trace x) a b l k few p = quiet h s.held s.room k few (event (trace x) a b l) (quiet_call (event (trace x) a b l) (omega arith))
+held_step plan h s loose inaugurate a b l k few p = quiet h s.held s.room k few (event inaugurate a b l) (quiet_call (event inaugurate a b l) (λ ws z. cc) (λ n z. cc))
+held_step plan h s loose hold a b l k few p = quiet h s.held s.room k few (event hold a b l) (quiet_call (event hold a b l) (λ ws z. cc) (λ n z. cc))
+held_step plan h s loose (give_back m) a b l k few p = quiet h s.held s.room k few (event (give_back m) a b l) (quiet_call (event (give_back m) a b l) (λ ws z. cc) (λ n z. cc))
+held_step plan h s loose directory a b l k few p = quiet h s.held s.room k few (event directory a b l) (quiet_call (event directory a b l) (λ ws z. cc) (λ n z. cc))
+held_step plan h s loose (status n) a b l k few p = quiet h s.held s.room k few (event (status n) a b l) (quiet_call (event (status n) a b l) (λ ws z. cc) (λ n z. cc))
+held_step plan h s loose (address d) a b l k few p = quiet h s.held s.room k few (event (address d) a b l) (quiet_call (event (address d) a b l) (λ ws z. cc) (λ n z. cc))
+held_step plan h s loose (trace x) a b l k few p = quiet h s.held s.room k few (event (trace x) a b l) (quiet_call (event (trace x) a b l) (λ ws z. cc) (λ n z. cc))
 
 -- The directory.
 row_same : (r q : Row) → same_row r q ≡ true → r ≡ q
@@ -215,11 +216,11 @@ module _ (mac places : ℕ) (h : History) (s : State) (k : Kept mac places h s) 
   force_step plan loose inaugurate a b l p =
       subst (λ (o : Result (List Row) ℕ). InForce mac (event inaugurate a b l ∷ h) (rows_after s.rows (decided s 0 o))) (sym found_so)
       (settled loose a b l (answer mac s.held) refl (p ∙ ap (λ o. told (λ rs. counter (crc (rows_bytes rs))) (decided s loose o)) found_so))
-  force_step plan loose (take ws) a b l p = force_more mac h (event (take ws) a b l) s.rows (not_inauguration (event (take ws) a b l) (λ n. omega (arith, n))) k.in_force
-  force_step plan loose (silence m) a b l p = force_more mac h (event (silence m) a b l) s.rows (not_inauguration (event (silence m) a b l) (λ n. omega (arith, n))) k.in_force
-  force_step plan loose hold a b l p = force_more mac h (event hold a b l) s.rows (not_inauguration (event hold a b l) (λ n. omega (arith, n))) k.in_force
-  force_step plan loose (give_back m) a b l p = force_more mac h (event (give_back m) a b l) s.rows (not_inauguration (event (give_back m) a b l) (λ n. omega (arith, n))) k.in_force
-  force_step plan loose directory a b l p = force_more mac h (event directory a b l) s.rows (not_inauguration (event directory a b l) (λ n. omega (arith, n))) k.in_force
-  force_step plan loose (status n) a b l p = force_more mac h (event (status n) a b l) s.rows (not_inauguration (event (status n) a b l) (λ z. omega (arith, z))) k.in_force
-  force_step plan loose (address d) a b l p = force_more mac h (event (address d) a b l) s.rows (not_inauguration (event (address d) a b l) (λ n. omega (arith, n))) k.in_force
-  force_step plan loose (trace x) a b l p = force_more mac h (event (trace x) a b l) s.rows (not_inauguration (event (trace x) a b l) (λ n. omega (arith, n))) k.in_force
+  force_step plan loose (take ws) a b l p = force_more mac h (event (take ws) a b l) s.rows (not_inauguration (event (take ws) a b l) (λ z. cc)) k.in_force
+  force_step plan loose (silence m) a b l p = force_more mac h (event (silence m) a b l) s.rows (not_inauguration (event (silence m) a b l) (λ z. cc)) k.in_force
+  force_step plan loose hold a b l p = force_more mac h (event hold a b l) s.rows (not_inauguration (event hold a b l) (λ z. cc)) k.in_force
+  force_step plan loose (give_back m) a b l p = force_more mac h (event (give_back m) a b l) s.rows (not_inauguration (event (give_back m) a b l) (λ z. cc)) k.in_force
+  force_step plan loose directory a b l p = force_more mac h (event directory a b l) s.rows (not_inauguration (event directory a b l) (λ z. cc)) k.in_force
+  force_step plan loose (status n) a b l p = force_more mac h (event (status n) a b l) s.rows (not_inauguration (event (status n) a b l) (λ z. cc)) k.in_force
+  force_step plan loose (address d) a b l p = force_more mac h (event (address d) a b l) s.rows (not_inauguration (event (address d) a b l) (λ z. cc)) k.in_force
+  force_step plan loose (trace x) a b l p = force_more mac h (event (trace x) a b l) s.rows (not_inauguration (event (trace x) a b l) (λ z. cc)) k.in_force

@@ -1,5 +1,5 @@
 -- Reports in a table, as members of a list. Assumes nothing, but where it says that the reports rise.
-use Rattle.std.proofs.Common.{◌≡◌, ℕ, zero, suc, ◌≤◌, Bool, true, false, cond, ◌⊎◌, List, [], ◌∷◌, map, length, Some, None, Ok, Err, Result, Less, sym, refl, ap, ◌∙◌, subst, inl, inr, arith}
+use Rattle.std.proofs.Common.{◌≡◌, ℕ, zero, suc, ◌≤◌, Bool, true, false, cond, ◌⊎◌, List, [], ◌∷◌, map, length, Some, None, Ok, Err, Result, Less, sym, refl, ap, ◌∙◌, subst, inl, inr}
 use Rattle.std.specs.List.{AllByRecursion, slice_get}
 use Rattle.std.proofs.lemmas.Bool.{cases_eq}
 use Rattle.keyed.specs.declared.store.Full.{Full}
@@ -85,7 +85,7 @@ above_other k [] h = tt
 above_other k (x ∷ xs) h = (λ e. other h.0 e, above_other k xs h.1)
   where
     other : numbers k x.mac ≡ Less → k ≡ x.mac → ⊥
-    other l e = let s = total_numbers.itself k in let t : numbers k k ≡ Less = ap (numbers k) e ∙ l in let z : ◌≡◌ {A = ℕ} 0 1 = cc in omega arith
+    other l e = let s = total_numbers.itself k in let t : numbers k k ≡ Less = ap (numbers k) e ∙ l in cc
 
 pub rises_differ : (xs : List Report) → Rises xs → Different (map own_mac xs)
 rises_differ [] h = tt
@@ -96,4 +96,4 @@ full_then xs r room none few = go (refused numbers own_mac r room xs) (is_map.fu
   where
     go : (b : Bool) → ◌≡◌ {A = Result ℕ Full} (cond b (Err full) (Ok (length (stored numbers own_mac r xs)))) (Err full) → b ≡ true
     go true e = refl
-    go false e = let z : ◌≡◌ {A = ℕ} 0 1 = cc in absurd (let g : ⊥ = omega arith in g)
+    go false e = cc

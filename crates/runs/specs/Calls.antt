@@ -1,6 +1,7 @@
 -- What each call of a node answers, and what it leaves in the node and in the output buffer. Assumes nothing.
-use Rattle.std.specs.Prelude.{◌≡◌, ℕ, ◌+◌, ◌-◌, min, Bool, true, false, cond, not, ◌&&◌, ◌||◌, List, [], ◌∷◌, length, Some, None, Ok, Err, Option, Result, ◌==◌, nat_lt}
+use Rattle.std.specs.Prelude.{◌≡◌, ℕ, ◌+◌, ◌-◌, min, Bool, true, false, cond, not, ◌&&◌, List, [], ◌∷◌, length, Some, None, Ok, Err, Result, ◌==◌, nat_lt}
 use Rattle.std.proofs.Math.ListN as list
+use Rattle.std.specs.List.{list_any}
 use Rattle.keyed.specs.Orders.{numbers}
 use Rattle.keyed.specs.Find.{found}
 use Rattle.keyed.specs.Store.{stored, store_keeps}
@@ -18,6 +19,7 @@ use Rattle.directory.specs.Writing.{write_answer, write_leaves}
 use Rattle.fitting.specs.Assemble.{same_way}
 use Rattle.fitting.specs.Neighbours.{IsLoose}
 use Rattle.fitting.specs.Answer.{loosely, answer}
+use Rattle.plan.specs.Meaning.{Meaning}
 use Rattle.addressing.specs.Devices.{Device}
 use Rattle.addressing.specs.Addressing.{no_directory, in_force, addressed, traced}
 
@@ -35,11 +37,6 @@ pub record State : Type 0 where
 -- a node that starts with memory for so many reports
 abbrev pub fresh : ℕ → ℕ → State
 fresh mac places = record { mac = mac; room = min places 63; held = []; holds = 0; rows = [] }
-
--- what a plan means: the address of each place that it serves, and the place at each address
-pub record Meaning : Type 0 where
-  pub serves : ℕ × ℕ → Option ℕ
-  pub stands : ℕ → Option (ℕ × ℕ)
 
 pub data Call : Type 0 where
   take : (words : List ℕ) → Call
@@ -157,11 +154,13 @@ directory_answer rs room = cond (length rs == 0) (Err no_directory) (write_answe
 
 -- a report held is of the node at this position of this consist
 abbrev pub is_awake : ℕ → ℕ → List Report → Bool
-is_awake u k [] = false
-is_awake u k (r ∷ hs) = r.uuid == u && r.position == k || is_awake u k hs
+is_awake u k hs = list_any (λ r. r.uuid == u && r.position == k) hs
 
 abbrev pub status_answer : State → ℕ → Result (ℕ × ℕ) Refusal
 status_answer s n = in_force s.rows (place_of n s.rows)
+
+abbrev pub status_reply : State → ℕ → Answer
+status_reply s n = told (λ p. node p.0 p.1 (is_awake p.0 p.1 s.held)) (status_answer s n)
 
 -- What is answered, with an output buffer of so many bytes; `loose` is what a refusal 7 names.
 abbrev pub reply : Meaning → State → ℕ → ℕ → Call → Answer
@@ -171,7 +170,7 @@ reply plan s loose size inaugurate = told (λ rs. counter (crc (rows_bytes rs)))
 reply plan s loose size hold = told granted (hold_answer s)
 reply plan s loose size (give_back m) = returned (is_returned s m)
 reply plan s loose size directory = told rows (directory_answer s.rows size)
-reply plan s loose size (status n) = told (λ p. node p.0 p.1 (is_awake p.0 p.1 s.held)) (status_answer s n)
+reply plan s loose size (status n) = status_reply s n
 reply plan s loose size (address d) = told at_address (addressed plan.serves s.rows d)
 reply plan s loose size (trace a) = told device (traced plan.stands s.rows a)
 

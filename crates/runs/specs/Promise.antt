@@ -1,14 +1,14 @@
 -- Whole runs of a node, and what is promised of two of them. Assumes nothing.
 use Rattle.std.specs.Prelude.{◌≡◌, ℕ, ◌⊎◌, List, [], ◌∷◌, length}
 use Rattle.keyed.specs.Table.{written}
-use Rattle.plan.specs.Meaning.{Lawful}
+use Rattle.plan.specs.Meaning.{Meaning, Lawful}
 use Rattle.train.specs.Line.{Line}
 use Rattle.train.specs.Rows.{Row, rows as line_rows}
 use Rattle.train.specs.Bytes.{rows_bytes, counter as line_counter}
 use Rattle.train.specs.Agreement.{Agree}
 use Rattle.fitting.specs.Answer.{loosely}
 use Rattle.addressing.specs.Devices.{Device}
-use Rattle.runs.specs.Calls.{State, fresh, Meaning, Call, inaugurate, directory, address, trace, Answer, counter, rows, at_address, device, refused, Event, event, Step}
+use Rattle.runs.specs.Calls.{State, fresh, Call, inaugurate, directory, address, trace, Answer, counter, rows, at_address, device, refused, Event, event, Step}
 use Rattle.runs.specs.Histories.{History, Part, Accepted, LastAccepted, LineFits, LastLine, InForce, Bars}
 use Rattle.runs.specs.Right.{Right, HasAddress}
 

@@ -17,7 +17,8 @@ use Rattle.fitting.specs.Theorems.{Fitting, AwakeIn}
 use Rattle.addressing.specs.Devices.{Device}
 use Rattle.addressing.specs.Addressing.{no_directory, absent}
 use Rattle.addressing.specs.OwnAddresses.{HasPlace}
-use Rattle.runs.specs.Calls.{Meaning, Call, take, silence, inaugurate, hold, give_back, directory, status, address, trace, Answer, held, counter, granted, returned, rows, node, at_address, device, refused, full, unknown, barred, busy, Event}
+use Rattle.plan.specs.Meaning.{Meaning}
+use Rattle.runs.specs.Calls.{Call, take, silence, inaugurate, hold, give_back, directory, status, address, trace, Answer, held, counter, granted, returned, rows, node, at_address, device, refused, full, unknown, barred, busy, Event}
 use Rattle.runs.specs.Histories.{History, ReportsHeld, out, NoneAccepted, LastLine, InForce, Bars}
 
 -- a report is held under the MAC m

@@ -6,10 +6,11 @@ use Rattle.report.specs.Layout.{words}
 use Rattle.train.specs.Line.{forward, Line}
 use Rattle.train.specs.Truth.{true_reports}
 use Rattle.train.specs.Bytes.{row_word}
-use Rattle.plan.specs.TrainPlan.{train_serves, train_stands}
+use Rattle.plan.specs.Meaning.{Meaning}
+use Rattle.plan.specs.TrainPlan.{train_serves, train_means}
 use Rattle.fitting.specs.Neighbours.{IsLoose}
 use Rattle.fitting.specs.Answer.{loosely, answer}
-use Rattle.runs.specs.Calls.{State, fresh, Meaning, Call, take, inaugurate, status, Answer, counter, node, refused, looked_at, reply, after}
+use Rattle.runs.specs.Calls.{State, fresh, Call, take, inaugurate, status, Answer, counter, node, refused, looked_at, reply, after}
 
 pub data Case : Type 0 where
   -- a node that starts under this MAC and gets these calls answers the last so
@@ -30,7 +31,7 @@ abbrev pub started : ℕ → List Call → State
 started mac calls = after_all (fresh mac 63) calls
 
 abbrev pub train_plan : Meaning
-train_plan = record { serves = train_serves 0; stands = train_stands 0 }
+train_plan = train_means 0
 
 -- an answer, whichever loose report is named
 abbrev pub Answers : State → Call → Answer → Type 0

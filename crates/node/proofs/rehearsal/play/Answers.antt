@@ -1,6 +1,7 @@
-use Rattle.std.proofs.Common.{◌≡◌, ℕ, ◌<◌, length, subst, arith}
+use Rattle.std.proofs.Common.{◌≡◌, ℕ, ◌<◌, length, take, ◌∙◌, subst, arith}
+use Rattle.std.proofs.lemmas.List.{length-take}
 use Rattle.node.specs.Seen.{seen}
-use Rattle.node.proofs.Plays.{Playing, play_none, play_more, play_all}
+use Rattle.node.proofs.Plays.{Playing, play_none, play_more, play_all, plays_within}
 use Rattle.node.proofs.rehearsal.play.Goals as goal
 
 pub loop-i-init : goal.loop-i-init
@@ -14,7 +15,12 @@ loop-i-preserved g c =
 
 pub returns : goal.returns
 returns g c =
+    let out = c.args.output.now in
+    let room = c.min-room.result in
+    let long : length c.loop-i.output ≡ room = c.loop-i.auto.output ∙ length-take room out ∙ omega (arith, c.min-room.ensures) in
     let e : c.loop-i.i ≡ c.min-count.result = omega arith in
-    play_all _ _ _ _ _ _ _ _ _ _ _ c.start-node.ensures c.min-count.ensures
-    (subst (λ (n : ℕ). Playing (record { serves = g.P.Plan.serves c.args.plan.now; stands = g.P.Plan.stands c.args.plan.now }) (seen c.start-node.result)
-    c.args.calls.now c.args.output.now c.loop-i.output c.args.records.now c.loop-i.records n (seen c.loop-i.node)) e c.loop-i.invariant)
+    let all = play_all _ _ _ _ _ _ _ _ _ _ _ c.start-node.ensures c.min-count.ensures
+    (subst (λ (n : ℕ). Playing (g.P.Plan.means c.args.plan.now) (seen c.start-node.result) c.args.calls.now (take room out) c.loop-i.output
+    c.args.records.now c.loop-i.records n (seen c.loop-i.node)) e c.loop-i.invariant) in
+    let p = plays_within out room c.min-room.ensures _ _ _ _ c.loop-i.output _ _ _ long all in
+    record { plays = p.0; unused = p.1 }

@@ -4,5 +4,5 @@ use Rattle.node.proofs.rehearsal.play.Given as goal
 
 abbrev pub invariant-loop-i : goal.invariant-loop-i
 invariant-loop-i g l =
-    Playing (record { serves = g.P.Plan.serves l.plan; stands = g.P.Plan.stands l.plan }) (seen l.initial.node) l.calls l.initial.output l.output
+    Playing (g.P.Plan.means l.plan) (seen l.initial.node) l.calls l.initial.output l.output
     l.initial.records l.records l.i (seen l.node)

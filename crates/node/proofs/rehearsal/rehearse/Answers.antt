@@ -4,8 +4,8 @@ use Rattle.node.proofs.rehearsal.rehearse.Goals as goal
 
 pub returns : goal.returns
 returns g c =
-    let one = c.play_within-played.ensures in
-    let two = c.play_within.ensures in
+    let one = c.play-played.ensures in
+    let two = c.play.ensures in
     record {
       first = record { plays = one.plays; unused = one.unused };
       second = record { plays = two.plays; unused = two.unused };
