@@ -3,8 +3,15 @@
 #![tactic(auto)]
 
 mod holds;
+mod made;
 mod nodes;
-mod places;
+mod started;
+mod unplayed;
 
-pub use holds::Holds;
-pub use nodes::{Nodes, Started, buffer, memory, out_after};
+pub use made::{Made, OwnedCall};
+pub use nodes::{Nodes, memory};
+pub use started::{Started, out_after, read_rows};
+pub use unplayed::Unplayed;
+
+#[cfg(test)]
+mod tests;

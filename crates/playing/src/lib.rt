@@ -2,6 +2,6 @@
 
 #![tactic(auto)]
 
-mod calls;
+mod scene;
 
-pub use calls::{Line, play_call, play_nodes};
+pub use scene::Scene;

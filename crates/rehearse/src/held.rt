@@ -1,30 +1,21 @@
 //! The rows at hand: reports under their MACs, in memory of the program.
 
-ghost use Rattle.std.specs.Prelude.{◌≡◌, [], take};
+ghost use Rattle.std.specs.Prelude.{◌≡◌, [], Ok, Err, MatchResult};
+ghost use Rattle.composition.specs.Meaning.{described};
+ghost use Rattle.composition.specs.Faults.{told, line_fault};
 ghost use Rattle.rehearse.specs.Rows.{at_hand, held_answer, held_keeps};
 
 use composition::{Composition, LineFault};
+use directory::limits::NODES;
+use keyed::list::records;
 use keyed::{Full, Table};
-use report::{Mac, Report, Uuid};
+use report::Report;
 
-/// A node holds at most 63 reports, and a line within the limits has at most 63 nodes.
-pub const ROOM: usize = 63;
-
-/// What stands in a free place.
-pub const NO_REPORT: Report = Report {
-    mac: Mac(0),
-    side1: Mac(0),
-    side2: Mac(0),
-    uuid: Uuid { high: 0, low: 0 },
-    position: 0,
-    nodes: 0,
-    masks: [0; 4],
-};
-
-/// The first `count` places hold the reports, in rising order of their MACs.
+/// The first `count` places hold the reports, in rising order of their MACs. A table stores in free places of memory that
+/// it is lent, so the count stands beside the places.
 #[derive(Drop)]
 pub struct Held {
-    places: [Report; ROOM],
+    places: [Report; NODES],
     count: usize,
 }
 
@@ -33,7 +24,7 @@ impl Held {
         ensures { at_hand result ≡ [] }
     {
         Held {
-            places: [NO_REPORT; ROOM],
+            places: [Report::default(); NODES],
             count: 0,
         }
     }
@@ -51,9 +42,13 @@ impl Held {
     }
 
     /// The true reports of a described train, or the rule that it breaks.
-    pub fn of_train(train: &Composition) -> Result<Held, LineFault> {
+    pub fn of_train(train: &Composition) -> Result<Held, LineFault>
+        ensures { MatchResult result
+            (λ _. told (line_fault (described train.now.consists.now)) ≡ Ok tt)
+            (λ fault. told (line_fault (described train.now.consists.now)) ≡ Err fault) }
+    {
         train.check()?;
-        let mut reports = [NO_REPORT; ROOM];
+        let mut reports = [Report::default(); NODES];
         let mut held = Held::none();
         if let Ok(count) = train.reports(&mut reports) {
             for report in reports.iter().take(count) {
@@ -66,14 +61,6 @@ impl Held {
     pub fn reports(&self) -> &[Report]
         ensures { result.now ≡ at_hand self.now }
     {
-        first(&self.places, self.count)
+        records(&self.places, self.count)
     }
-}
-
-/// The first `count` reports, or all if they are fewer.
-fn first(reports: &[Report], count: usize) -> &[Report]
-    ensures { result.now ≡ take count reports.now }
-{
-    let count = count.min(reports.len());
-    &reports[0..count]
 }

@@ -3,22 +3,18 @@
 use crate::held::Held;
 use composition::{Composition, Consist};
 use directory::Directory;
-use replies::tell_no_directory;
 use report::{Mac, Report};
 use std::io;
-use telling::{tell_fault, tell_rows};
+use telling::tell_rows;
 
 /// Puts the report in a row of words among the rows at hand.
 pub fn hold_report(rt: &HostRuntime, held: &mut Held, words: &[u32]) -> io::Result<()> {
     match Report::read(words) {
         Ok(report) => match held.store(report) {
             Ok(count) => println!(rt; "held: {count}"),
-            Err(_) => println!(rt; "held: refused 4 Full"),
+            Err(full) => println!(rt; "held: refused {full}"),
         },
-        Err(fault) => {
-            let place = fault.place();
-            println!(rt; "held: refused 2 Garbled {place}")
-        }
+        Err(fault) => println!(rt; "held: refused {fault}"),
     }
 }
 
@@ -30,7 +26,7 @@ pub fn hold_train(rt: &HostRuntime, held: &mut Held, consists: &[Consist]) -> io
             let count = held.reports().len();
             println!(rt; "held: {count}")
         }
-        Err(fault) => tell_fault(rt, "held", fault),
+        Err(fault) => println!(rt; "held: no line: {fault}"),
     }
 }
 
@@ -48,6 +44,6 @@ pub fn tell_inauguration(
             println!(rt; "inaugurate: counter {counter:08x}")?;
             tell_rows(rt, directory)
         }
-        Err(refused) => tell_no_directory(rt, refused),
+        Err(refused) => println!(rt; "inaugurate: refused {refused}"),
     }
 }

@@ -2,8 +2,6 @@
 
 #![tactic(auto)]
 
-mod address;
 mod reply;
 
-pub use address::{tell_address, tell_place, tell_trace};
-pub use reply::{tell_answer, tell_no_directory, tell_row};
+pub use reply::{tell_answer, tell_place};

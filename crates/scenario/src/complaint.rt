@@ -1,51 +1,47 @@
 //! Complaints of lines that are no statement.
 
-use std::fmt;
+use crate::number::{Base, Written};
+use std::alloc::AllocError;
+use thiserror::Error;
 
 /// Why a line is no statement, with the word that is at fault.
-#[derive(Clone, Copy, Drop)]
+#[derive(Clone, Copy, Debug, Drop, Error)]
 pub enum Complaint<'a> {
+    #[error("no statement begins with '{0}'")]
     Unknown(&'a str),
-    NotHex(&'a str),
+    #[error("'{0}' is not {1}")]
+    NotANumber(&'a str, Base),
+    #[error("'{0}' has an odd number of digits")]
     OddDigits(&'a str),
     /// The word, and the largest number that may stand there.
-    TooLarge(&'a str, u128),
-    NotDecimal(&'a str),
-    /// The word, and the largest decimal number that may stand there.
-    TooLargeDecimal(&'a str, u64),
+    #[error("'{0}' is above {1}")]
+    TooLarge(&'a str, Written),
+    #[error("'{0}' is neither forward nor turned")]
     NotAWay(&'a str),
+    #[error("'{0}' is not MASK:MAC or MASK:asleep")]
     NotANode(&'a str),
     /// The first node past the fourth.
+    #[error("'{0}' is a fifth node, and a consist has at most 4")]
     FifthNode(&'a str),
+    #[error("'{0}' is none of train, consist and home")]
     NotAPlan(&'a str),
+    #[error("'{0}' is neither host nor node")]
     NotADevice(&'a str),
+    #[error("'{0}' is not an address A.B.C.D")]
     NotAnAddress(&'a str),
     /// What is missing at the end of the line.
+    #[error("{0} is missing")]
     Missing(&'static str),
     /// A word behind the end of the statement.
+    #[error("'{0}' stands behind the end of the statement")]
     Extra(&'a str),
 }
 
-impl fmt::Display for Complaint<'_> {
-    fn fmt<W: fmt::Write>(&self, f: &mut fmt::Formatter<W>) -> fmt::Result {
-        match self {
-            Complaint::Unknown(word) => write!(f, "no statement begins with '{word}'"),
-            Complaint::NotHex(word) => write!(f, "'{word}' is not a number in hex"),
-            Complaint::OddDigits(word) => write!(f, "'{word}' has an odd number of digits"),
-            Complaint::TooLarge(word, most) => write!(f, "'{word}' is above {most:x}"),
-            Complaint::NotDecimal(word) => write!(f, "'{word}' is not a decimal number"),
-            Complaint::TooLargeDecimal(word, most) => write!(f, "'{word}' is above {most}"),
-            Complaint::NotAWay(word) => write!(f, "'{word}' is neither forward nor turned"),
-            Complaint::NotANode(word) => write!(f, "'{word}' is not MASK:MAC or MASK:asleep"),
-            Complaint::FifthNode(word) => write!(
-                f,
-                "'{word}' is a fifth node, and a consist has at most 4"
-            ),
-            Complaint::NotAPlan(word) => write!(f, "'{word}' is none of train, consist and home"),
-            Complaint::NotADevice(word) => write!(f, "'{word}' is neither host nor node"),
-            Complaint::NotAnAddress(word) => write!(f, "'{word}' is not an address A.B.C.D"),
-            Complaint::Missing(what) => write!(f, "{what} is missing"),
-            Complaint::Extra(word) => write!(f, "'{word}' stands behind the end of the statement"),
-        }
-    }
+/// Why a line gives no statement.
+#[derive(Clone, Copy, Debug, Drop, Error)]
+pub enum NoStatement<'a> {
+    #[error(transparent)]
+    Complaint(#[from] Complaint<'a>),
+    #[error(transparent)]
+    OutOfMemory(#[from(alloc)] AllocError),
 }

@@ -5,6 +5,11 @@
 mod complaint;
 mod number;
 mod statement;
+mod words;
 
-pub use complaint::Complaint;
-pub use statement::{NodeStatement, Parsed, Statement};
+pub use complaint::{Complaint, NoStatement};
+pub use number::{Base, Written};
+pub use statement::{NodeStatement, Statement};
+
+#[cfg(test)]
+mod tests;

@@ -1,22 +1,20 @@
 //! The statements of a scenario.
 
-mod bytes;
 mod consist;
 mod device;
-mod held;
 mod nodes;
 mod plans;
-mod word;
 
-use crate::complaint::Complaint;
+use crate::complaint::NoStatement;
+use crate::number::dotted;
+use crate::words::{Words, mac};
 use addressing::Device;
 use any_plan::AnyPlan;
 use composition::Consist;
 pub use nodes::NodeStatement;
 use plan::Place;
 use report::Mac;
-use std::alloc::{AllocError, Global};
-use std::str::SplitWhitespace;
+use std::alloc::Global;
 
 /// One line of a scenario.
 #[derive(Drop)]
@@ -49,51 +47,54 @@ pub enum Statement {
     Node(NodeStatement),
 }
 
-/// What a line says, or why it is no statement; want of memory ends the program.
-pub type Parsed<'a, T> = Result<Result<T, Complaint<'a>>, AllocError>;
-
 impl Statement {
-    pub fn parse(heap: Global, line: &str) -> Parsed<'_, Statement> {
-        let text = match line.split_once('#') {
-            Some((before, _)) => before,
-            None => line,
+    /// What a line says, or why it is no statement.
+    pub fn parse(heap: Global, line: &str) -> Result<Statement, NoStatement<'_>> {
+        let text = line.split_once('#').map_or(line, |(before, _)| before);
+        let mut words = Words::of(heap, text);
+        let Some(first) = words.next() else {
+            return Ok(Statement::Nothing);
         };
-        let mut tokens = text.split_whitespace();
-        match tokens.next() {
-            None => Ok(Ok(Statement::Nothing)),
-            Some("report") => bytes::report(heap, tokens),
-            Some("counter") => bytes::counter(heap, tokens),
-            Some("hello") => bytes::hello(heap, tokens),
-            Some("consist") => Ok(consist::consist(tokens)),
-            Some("uncouple") => Ok(word::alone(tokens, Statement::Uncouple)),
-            Some("train") => Ok(word::alone(tokens, Statement::Train)),
-            Some("held") => held::held(heap, tokens),
-            Some("inaugurate") => Ok(held::inaugurate(tokens)),
-            Some("plan") => plans::plan(heap, tokens),
-            Some("place") => Ok(plans::place(tokens)),
-            Some("address") => Ok(device::address(tokens)),
-            Some("trace") => Ok(device::trace(tokens)),
-            Some(other) => Statement::parse_node(heap, other, tokens),
-        }
+        let statement = Statement::begun(first, &mut words)?;
+        words.end()?;
+        Ok(statement)
     }
 
-    fn parse_node<'a>(
-        heap: Global,
-        first: &'a str,
-        tokens: SplitWhitespace<'a>,
-    ) -> Parsed<'a, Statement> {
-        match first {
-            "node" => Ok(nodes::start(tokens)),
-            "at" => Ok(nodes::at(tokens)),
-            "take" => nodes::take(heap, tokens),
-            "silence" => Ok(nodes::silence(tokens)),
-            "hold" => Ok(nodes::alone(tokens, NodeStatement::Hold)),
-            "return" => Ok(nodes::alone(tokens, NodeStatement::Return)),
-            "directory" => Ok(nodes::directory(tokens)),
-            "status" => Ok(nodes::status(tokens)),
-            "agree" => nodes::agree(heap, tokens),
-            "rehearse" => Ok(nodes::rehearse(tokens)),
-            _ => Ok(Err(Complaint::Unknown(first))),
+    /// The statement that begins with this word.
+    fn begun<'a>(first: &'a str, words: &mut Words<'a>) -> Result<Statement, NoStatement<'a>> {
+        Ok(match first {
+            "report" => Statement::Report(words.words()?),
+            "counter" => Statement::Counter(words.bytes()?),
+            "hello" => Statement::Hello(words.bytes()?),
+            "consist" => Statement::Consist(consist::consist(words)?),
+            "uncouple" => Statement::Uncouple,
+            "train" => Statement::Train,
+            "held" => Statement::held(words)?,
+            "inaugurate" => Statement::inaugurate(words)?,
+            "plan" => Statement::Plan(plans::plan(words)?),
+            "place" => Statement::Place(plans::place(words)?),
+            "address" => Statement::Address(device::device(words)?),
+            "trace" => Statement::Trace(dotted(words.heap, words.expect("an address")?)?),
+            other => Statement::Node(NodeStatement::begun(other, words)?),
+        })
+    }
+
+    /// `train`, `none`, or the words of a report.
+    fn held<'a>(words: &mut Words<'a>) -> Result<Statement, NoStatement<'a>> {
+        if words.goes_on_with("train") {
+            return Ok(Statement::HeldTrain);
+        }
+        if words.goes_on_with("none") {
+            return Ok(Statement::HeldNone);
+        }
+        Ok(Statement::Held(words.words()?))
+    }
+
+    /// The rows at hand as the node of a MAC; the node that is spoken to where none is named.
+    fn inaugurate<'a>(words: &mut Words<'a>) -> Result<Statement, NoStatement<'a>> {
+        match words.next() {
+            Some(token) => Ok(Statement::Inaugurate(mac(token)?)),
+            None => Ok(Statement::Node(NodeStatement::Inaugurate)),
         }
     }
 }

@@ -1,8 +1,11 @@
 //! What the program says of a report and of a counter.
 
 use counter::crc32;
-use report::{Mac, Report, Uuid, WriteFault};
+use report::{Mac, Report};
 use std::io;
+
+/// The most words of a report.
+const WORDS: usize = 17;
 
 /// The report in a row of words and its words written again, or why the row is refused.
 pub fn tell_report(rt: &HostRuntime, words: &[u32]) -> io::Result<()> {
@@ -13,44 +16,39 @@ pub fn tell_report(rt: &HostRuntime, words: &[u32]) -> io::Result<()> {
             print!(rt; "  words:")?;
             tell_words(rt, &report)
         }
-        Err(fault) => {
-            let place = fault.place();
-            println!(rt; "report: refused 2 Garbled {place}")
-        }
+        Err(fault) => println!(rt; "report: refused {fault}"),
     }
 }
 
 fn tell_node(rt: &HostRuntime, report: &Report) -> io::Result<()> {
-    let Mac(mac) = report.mac;
-    let position = report.position;
-    let nodes = report.nodes;
-    let Uuid { high, low } = report.uuid;
-    println!(rt;
-        "report: node {mac:012x}, position {position} of {nodes} in consist {high:016x}{low:016x}"
-    )?;
-    tell_side(rt, 1, report.side1)?;
-    tell_side(rt, 2, report.side2)
+    let Report {
+        mac,
+        side1,
+        side2,
+        uuid,
+        position,
+        nodes,
+        ..
+    } = *report;
+    println!(rt; "report: node {mac}, position {position} of {nodes} in consist {uuid}")?;
+    tell_side(rt, 1, side1)?;
+    tell_side(rt, 2, side2)
 }
 
 fn tell_side(rt: &HostRuntime, side: u8, neighbour: Mac) -> io::Result<()> {
-    let Mac(mac) = neighbour;
-    if mac == 0 {
-        println!(rt; "  side {side}: no neighbour")
-    } else {
-        println!(rt; "  side {side}: {mac:012x}")
+    match neighbour {
+        Mac(0) => println!(rt; "  side {side}: no neighbour"),
+        mac => println!(rt; "  side {side}: {mac}"),
     }
 }
 
 /// The networks of each node of the consist, from end 1.
 fn tell_masks(rt: &HostRuntime, report: &Report) -> io::Result<()> {
-    let nodes = usize::from(report.nodes);
-    for (i, mask) in report.masks.iter().take(nodes).enumerate() {
-        let position = i.saturating_add(1);
+    let masks = report.masks.iter().take(usize::from(report.nodes));
+    for (position, mask) in (1..=4u8).zip(masks) {
         print!(rt; "  node {position}: networks")?;
-        for network in 1..=8u8 {
-            if *mask >> (network - 1) & 1 == 1 {
-                print!(rt; " {network}")?;
-            }
+        for network in (1..=8u8).filter(|network| *mask >> (*network - 1) & 1 == 1) {
+            print!(rt; " {network}")?;
         }
         println!(rt; "")?;
     }
@@ -59,7 +57,8 @@ fn tell_masks(rt: &HostRuntime, report: &Report) -> io::Result<()> {
 
 /// The words of a report on one line.
 pub fn tell_words(rt: &HostRuntime, report: &Report) -> io::Result<()> {
-    let mut words = [0u32; 17];
+    // The node's libraries fill a buffer that they are lent, here and wherever reports are asked, since they have no heap.
+    let mut words = [0u32; WORDS];
     match report.write(&mut words) {
         Ok(count) => {
             for word in words.iter().take(count) {
@@ -67,8 +66,7 @@ pub fn tell_words(rt: &HostRuntime, report: &Report) -> io::Result<()> {
             }
             println!(rt; "")
         }
-        Err(WriteFault::Field) => println!(rt; " refused 17 Field"),
-        Err(WriteFault::Short) => println!(rt; " refused 1 Short"),
+        Err(fault) => println!(rt; " refused {fault}"),
     }
 }
 

@@ -1,67 +1,63 @@
 //! What the program says of a HELLO frame.
 
-use hello_read::{Fields, Hello, HelloFrame};
-use std::io;
+use hello_read::{Fields, Hello, HelloFrame, Refusal};
+use std::{fmt, io};
+
+/// Bytes, as two digits each.
+#[derive(Clone, Copy)]
+struct Digits<'a>(&'a [u8]);
+
+impl fmt::Display for Digits<'_> {
+    fn fmt<W: fmt::Write>(&self, f: &mut fmt::Formatter<W>) -> fmt::Result {
+        for byte in self.0 {
+            write!(f, "{byte:02x}")?;
+        }
+        Ok(())
+    }
+}
 
 /// The fields of a HELLO frame, or why it is refused.
 pub fn tell_hello(rt: &HostRuntime, frame: &[u8]) -> io::Result<()> {
     match HelloFrame::read(frame) {
-        Ok(read) => {
-            let HelloFrame {
-                hello,
+        Ok(
+            HelloFrame {
+                hello: Hello {
+                    fields,
+                    vendor,
+                    uuid,
+                },
                 vendor_at,
                 uuid_at,
                 ..
-            } = read;
-            let Hello {
-                fields,
-                vendor,
-                uuid,
-            } = hello;
+            },
+        ) => {
             tell_fields(rt, &fields)?;
-            tell_part(rt, "vendor", vendor_at, vendor)?;
-            tell_part(rt, "uuid", uuid_at, uuid)
+            println!(rt; "  vendor at {vendor_at}: {}", Digits(vendor))?;
+            println!(rt; "  uuid at {uuid_at}: {}", Digits(uuid))
         }
-        Err(fault) => {
-            let refusal = fault.refusal();
-            let number = refusal.number;
-            let word = match number {
-                15 => "Broken",
-                16 => "Foreign",
-                _ => "Field",
-            };
-            match refusal.place {
-                Some(place) => println!(rt; "hello: refused {number} {word} {place}"),
-                None => println!(rt; "hello: refused {number} {word}"),
-            }
-        }
+        Err(fault) => println!(rt; "hello: refused {}", Refusal::from(fault)),
     }
 }
 
 fn tell_fields(rt: &HostRuntime, fields: &Fields) -> io::Result<()> {
-    let source = fields.source;
-    let remote = fields.remote;
-    let port = fields.port;
-    let line = char::from(fields.line);
-    let direction = fields.direction;
+    let Fields {
+        source,
+        remote,
+        life_sign,
+        counter,
+        checksum,
+        statuses: [a, b, c, d],
+        timeout,
+        port,
+        line,
+        direction,
+        inhibition,
+    } = *fields;
+    let line = char::from(line);
     println!(rt;
         "hello: source {source:012x}, remote {remote:012x}, port {port}, line {line}, direction {direction}"
     )?;
-    let life_sign = fields.life_sign;
-    let counter = fields.counter;
-    let checksum = fields.checksum;
     println!(rt; "  life sign {life_sign}, counter {counter:08x}, checksum {checksum:04x}")?;
-    let [a, b, c, d] = fields.statuses;
-    let timeout = if fields.timeout == 1 { "slow" } else { "fast" };
-    let inhibition = fields.inhibition;
+    let timeout = if timeout == 1 { "slow" } else { "fast" };
     println!(rt; "  statuses {a} {b} {c} {d}, timeout {timeout}, inhibition {inhibition}")
-}
-
-/// A part of the frame, with its place.
-fn tell_part(rt: &HostRuntime, name: &str, place: usize, bytes: &[u8]) -> io::Result<()> {
-    print!(rt; "  {name} at {place}: ")?;
-    for byte in bytes {
-        print!(rt; "{byte:02x}")?;
-    }
-    println!(rt; "")
 }

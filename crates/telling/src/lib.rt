@@ -7,5 +7,5 @@ mod described;
 mod hello;
 
 pub use answer::{tell_counter, tell_report};
-pub use described::{tell_fault, tell_rows, tell_train};
+pub use described::{tell_rows, tell_train};
 pub use hello::tell_hello;
