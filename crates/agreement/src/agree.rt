@@ -51,30 +51,34 @@ impl Compared {
     }
 }
 
-/// What is compared of the nodes of these MACs, or of all where none is named.
-fn all_of(heap: Global, nodes: &Nodes<'_>, macs: &[Mac]) -> Result<Vec<Compared>, Unplayed> {
-    let mut compared = Vec::new(heap);
+/// The MACs that are named, each of a node that has started; those of all nodes where none is named.
+fn named(heap: Global, nodes: &Nodes<'_>, macs: &[Mac]) -> Result<Vec<Mac>, Unplayed> {
+    let mut named = Vec::new(heap);
     if macs.is_empty() {
         for started in nodes.started() {
-            compared.push(Compared::of(heap, started)?)?;
+            named.push(started.mac)?;
         }
     }
     for mac in macs {
-        compared.push(Compared::of(heap, nodes.get(*mac)?)?)?;
+        named.push(nodes.get(*mac)?.mac)?;
     }
-    Ok(compared)
+    Ok(named)
 }
 
 /// Whether the nodes of these MACs agree, or all where none is named: the first is compared with each other.
 pub fn tell_agreement(rt: &HostRuntime, nodes: &Nodes<'_>, macs: &[Mac]) -> Result<(), Unplayed> {
-    let compared = all_of(rt.alloc(), nodes, macs)?;
-    let (first, others) = compared.split_first().ok_or(Unplayed::NoNode)?;
-    for other in others {
-        if !first.agrees(rt, other)? {
+    let heap = rt.alloc();
+    let named = named(heap, nodes, macs)?;
+    let (first, others) = named.split_first().ok_or(Unplayed::NoNode)?;
+    let first = Compared::of(heap, nodes.get(*first)?)?;
+    for mac in others {
+        // One at a time, since a node can be named as often as wanted.
+        let other = Compared::of(heap, nodes.get(*mac)?)?;
+        if !first.agrees(rt, &other)? {
             return Ok(());
         }
     }
-    let count = compared.len();
+    let count = named.len();
     let rows = first.rows.len();
     match first.counter {
         Some(counter) => {

@@ -6,7 +6,7 @@ ghost use Rattle.any_plan.specs.Chosen.{chosen, any_means};
 ghost use Rattle.any_plan.specs.Laws.{any_lawful};
 
 use crate::any::AnyPlan;
-use plan::{Consist, Place, Plan};
+use plan::{Consist, Place, Plan, is_local};
 
 fn address_in(plan: &AnyPlan, place: Place) -> Option<u32>
     ensures { result ≡ (any_means (chosen plan.now)).serves (place_means place) }
@@ -16,7 +16,12 @@ fn address_in(plan: &AnyPlan, place: Place) -> Option<u32>
         AnyPlan::Consist(consist) => consist.address(place),
         AnyPlan::Home { subnet, below } => {
             let own = Consist { subnet: *subnet };
-            own.address_over(place, address_in(below, place))
+            // The plan below is asked only where its answer counts: a nest can be deep.
+            if own.owns(place) {
+                own.address(place)
+            } else {
+                own.address_over(place, address_in(below, place))
+            }
         }
     }
 }
@@ -29,7 +34,11 @@ fn place_in(plan: &AnyPlan, address: u32) -> Option<Place>
         AnyPlan::Consist(consist) => consist.place_at(address),
         AnyPlan::Home { subnet, below } => {
             let own = Consist { subnet: *subnet };
-            own.place_over(address, place_in(below, address))
+            if is_local(address) {
+                own.place_at(address)
+            } else {
+                own.place_over(address, place_in(below, address))
+            }
         }
     }
 }

@@ -6,16 +6,23 @@ use std::fmt;
 
 impl fmt::Display for AnyPlan {
     fn fmt<W: fmt::Write>(&self, f: &mut fmt::Formatter<W>) -> fmt::Result {
-        match self {
-            AnyPlan::Train(train) => {
-                let Train { backbone } = *train;
-                write!(f, "train {backbone}")
+        // A loop, not a call of itself: a nest can be deep.
+        let mut plan = self;
+        loop {
+            match plan {
+                AnyPlan::Train(train) => {
+                    let Train { backbone } = *train;
+                    return write!(f, "train {backbone}");
+                }
+                AnyPlan::Consist(consist) => {
+                    let Consist { subnet } = *consist;
+                    return write!(f, "consist {subnet}");
+                }
+                AnyPlan::Home { subnet, below } => {
+                    write!(f, "home {subnet} ")?;
+                    plan = below;
+                }
             }
-            AnyPlan::Consist(consist) => {
-                let Consist { subnet } = *consist;
-                write!(f, "consist {subnet}")
-            }
-            AnyPlan::Home { subnet, below } => write!(f, "home {subnet} {below}"),
         }
     }
 }

@@ -18,7 +18,7 @@ pub struct Started<'m> {
     pub mac: Mac,
     pub places: usize,
     /// How many holds of it are out.
-    pub(crate) out: u64,
+    pub out: u64,
     /// The counter of its directory.
     pub counter: Option<u32>,
     /// The calls made on it, and its answers.
@@ -69,10 +69,10 @@ impl Started<'_> {
         out: &mut [u8],
     ) -> Result<Answer, AllocError> {
         let node = &mut self.node;
-        match call {
-            Call::Hold => holds.take(node, self.mac),
-            Call::GiveBack(_) => Ok(Answer::Returned(holds.give_back(node))),
-            call => Ok(node.call(plan, call, out)),
+        match (node.ask(plan, call, out), call) {
+            (Some(answer), _) => Ok(answer),
+            (None, Call::GiveBack(_)) => Ok(Answer::Returned(holds.give_back(node))),
+            (None, _) => holds.take(node, self.mac),
         }
     }
 

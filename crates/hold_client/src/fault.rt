@@ -21,11 +21,27 @@ pub type ReadFault = HoldFault<DirectoryFault>;
 /// Why no status is read.
 pub type StatusFault = HoldFault<Refused>;
 
-// By hand: a derived `From` has no contract, and clauses name the error that `?` makes.
+// By hand, as each below: a derived `From` has no contract, and clauses name the error that `?` makes.
 impl<E> From<Busy> for HoldFault<E> {
     ghost from_gives = { λ w r. r ≡ fault.Busy };
 
     fn from(_: Busy) -> HoldFault<E> {
         HoldFault::Busy
+    }
+}
+
+impl From<DirectoryFault> for ReadFault {
+    ghost from_gives = { λ w r. r ≡ fault.Refused w };
+
+    fn from(fault: DirectoryFault) -> ReadFault {
+        HoldFault::Refused(fault)
+    }
+}
+
+impl From<Refused> for StatusFault {
+    ghost from_gives = { λ w r. r ≡ fault.Refused w };
+
+    fn from(fault: Refused) -> StatusFault {
+        HoldFault::Refused(fault)
     }
 }

@@ -1,5 +1,5 @@
 -- Calls and answers as they are listed and recorded, and what was played of a list. Assumes nothing.
-use Rattle.std.specs.Prelude.{◌≡◌, ℕ, min, List, [], ◌∷◌, map, length, drop, Ok, Err, Result}
+use Rattle.std.specs.Prelude.{◌≡◌, ℕ, min, Bool, true, false, List, [], ◌∷◌, map, length, drop, Ok, Err, Result}
 use Rattle.std.proofs.Math.ListN as list
 use Rattle.report.specs.declared.Mac.{Mac}
 use Rattle.addressing.specs.Devices.{device_means}
@@ -26,6 +26,18 @@ calling call.Directory = model.directory
 calling (call.Status n) = model.status n
 calling (call.Address d) = model.address (device_means d)
 calling (call.Trace x) = model.trace x
+
+-- whether a call hands a hold over, and so the token that a hold is
+abbrev pub hands_hold : model.Call → Bool
+hands_hold (model.take ws) = false
+hands_hold (model.silence m) = false
+hands_hold model.inaugurate = false
+hands_hold model.hold = true
+hands_hold (model.give_back m) = true
+hands_hold model.directory = false
+hands_hold (model.status n) = false
+hands_hold (model.address d) = false
+hands_hold (model.trace x) = false
 
 abbrev pub granted_told : Result Mac Busy → model.Answer
 granted_told (Ok m) = granted m.0

@@ -1,8 +1,9 @@
 //! The calls of a node as plain data, and one of them made.
 
+ghost use Rattle.std.specs.Prelude.{◌≡◌, not, is_some, MatchOption};
 ghost use Rattle.runs.specs.Calls.{Step, event};
 ghost use Rattle.node.specs.Seen.{seen};
-ghost use Rattle.node.specs.Recorded.{calling, answer_told};
+ghost use Rattle.node.specs.Recorded.{calling, hands_hold, answer_told};
 
 use crate::fault::{Busy, DirectoryFault, InaugurationFault, TakeFault, Unknown};
 use crate::hold::Hold;
@@ -43,7 +44,7 @@ pub enum Answer {
 impl Node<'_> {
     /// Makes the call.
     #[tactic(auto, using(crate::proofs::Steps::with_buffer))]
-    pub fn call<P: Plan>(&mut self, plan: &P, call: Call<'_>, out: &mut [u8]) -> Answer
+    pub(crate) fn call<P: Plan>(&mut self, plan: &P, call: Call<'_>, out: &mut [u8]) -> Answer
         ensures { Step (P.means plan.now) (seen self.old) (event (calling call.entry) (answer_told result) out.old out.new) (seen self.new) }
     {
         match call {
@@ -56,6 +57,20 @@ impl Node<'_> {
             Call::Status(number) => Answer::Status(self.status(number)),
             Call::Address(device) => Answer::Address(self.address(plan, device)),
             Call::Trace(address) => Answer::Traced(self.trace(plan, address)),
+        }
+    }
+
+    /// Makes a call that hands no hold over, and no other: a hold is a token, which only `hold` gives and `give_back` takes, and
+    /// a call as data has but its MAC.
+    pub fn ask<P: Plan>(&mut self, plan: &P, call: Call<'_>, out: &mut [u8]) -> Option<Answer>
+        ensures which { is_some result ≡ not (hands_hold (calling call.entry)) }
+        ensures made { MatchOption result
+            ((seen self.new ≡ seen self.old) × (out.new ≡ out.old))
+            (λ answer. Step (P.means plan.now) (seen self.old) (event (calling call.entry) (answer_told answer) out.old out.new) (seen self.new)) }
+    {
+        match call {
+            Call::Hold | Call::GiveBack(_) => None,
+            call => Some(self.call(plan, call, out)),
         }
     }
 }

@@ -61,7 +61,13 @@ impl<P: Plan> Plan for Home<P> {
         ensures kept { self.exit.now ≡ self.entry.now }
         ensures said { Exactly (HomeServes self.now.subnet (λ p a. (P.Plan.means self.now.below).serves p ≡ Some a) (place_means place)) result }
     {
-        self.own().address_over(place, self.below.address(place))
+        let own = self.own();
+        // The plan below is asked only where its answer counts: it may be a layer over another.
+        if own.owns(place) {
+            own.address(place)
+        } else {
+            own.address_over(place, self.below.address(place))
+        }
     }
 
     fn place_at(&self, address: u32) -> Option<Place>
@@ -69,6 +75,11 @@ impl<P: Plan> Plan for Home<P> {
         ensures kept { self.exit.now ≡ self.entry.now }
         ensures said { Exactly (λ p. HomeServes self.now.subnet (λ q a. (P.Plan.means self.now.below).serves q ≡ Some a) p address) (located result) }
     {
-        self.own().place_over(address, self.below.place_at(address))
+        let own = self.own();
+        if is_local(address) {
+            own.place_at(address)
+        } else {
+            own.place_over(address, self.below.place_at(address))
+        }
     }
 }

@@ -40,6 +40,10 @@ impl Scene<'_, '_> {
 
     /// Makes a call with an output buffer of so many bytes.
     fn call(&mut self, call: OwnedCall, bytes: usize) -> Result<(), Unplayed> {
+        // Before there is a buffer.
+        if self.nodes.started().is_empty() {
+            return Err(Unplayed::NoNode);
+        }
         let mut buffer = vec![in self.rt.alloc(); 0; bytes]?;
         let (answer, out) = self.nodes.make(self.plan, call, buffer.as_mut_slice())?;
         tell_answer(self.rt, "", answer, out, buffer.as_slice())?;

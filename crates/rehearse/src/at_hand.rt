@@ -87,12 +87,18 @@ impl<'m> AtHand<'m> {
             }
             Statement::Place(place) => tell_place(rt, &self.plan, place)?,
             Statement::Address(device) => {
-                let address = addressing::address(&self.directory, &self.plan, device);
-                self.ask(rt, OwnedCall::Address(device), Answer::Address(address))?;
+                self.ask(
+                    rt,
+                    OwnedCall::Address(device),
+                    |directory, plan| -> Answer {
+                        Answer::Address(addressing::address(directory, plan, device))
+                    },
+                )?;
             }
             Statement::Trace(address) => {
-                let device = addressing::trace(&self.directory, &self.plan, address);
-                self.ask(rt, OwnedCall::Trace(address), Answer::Traced(device))?;
+                self.ask(rt, OwnedCall::Trace(address), |directory, plan| -> Answer {
+                    Answer::Traced(addressing::trace(directory, plan, address))
+                })?;
             }
             Statement::Node(statement) => self.scene(rt).play(statement)?,
         }
@@ -108,9 +114,13 @@ impl<'m> AtHand<'m> {
     }
 
     /// Asks the node that is spoken to; where no node has started, the answer of the directory at hand is told.
-    fn ask(&mut self, rt: &HostRuntime, call: OwnedCall, at_hand: Answer) -> Result<(), Unplayed> {
+    fn ask<F>(&mut self, rt: &HostRuntime, call: OwnedCall, at_hand: F) -> Result<(), Unplayed>
+    where
+        F: FnOnce(&Directory, &AnyPlan) -> Answer,
+        requires { F.IsAlwaysCallable at_hand }
+    {
         if self.nodes.started().is_empty() {
-            tell_answer(rt, "", at_hand, 0, &[])?;
+            tell_answer(rt, "", at_hand(&self.directory, &self.plan), 0, &[])?;
             return Ok(());
         }
         self.scene(rt).ask(call)

@@ -13,7 +13,7 @@ use std::io::{BufRead, BufReader};
 
 fn main(rt: HostRuntime) -> anyhow::Result<()> {
     let heap = rt.alloc();
-    let mut memory = memory(heap)?;
+    let mut memory = memory(heap).map_err(io::Error::from)?;
     let mut at_hand = AtHand::new(heap, memory.as_mut_slice());
     let played = play_lines(&rt, &mut at_hand);
     at_hand.end();

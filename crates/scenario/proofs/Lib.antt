@@ -1,1 +1,2 @@
+mod FirstItems
 pub mod Numerals

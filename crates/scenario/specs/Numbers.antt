@@ -1,5 +1,5 @@
 -- Numbers as a scenario writes them. Assumes nothing.
-use Rattle.std.specs.Prelude.{◌≡◌, ℕ, ◌+◌, ◌*◌, ◌/◌, ◌^◌, ◌<◌, ◌≤◌, ◌==◌, List, [], length, map, slice_index, slice_index_or, All}
+use Rattle.std.specs.Prelude.{◌≡◌, ℕ, ◌+◌, ◌-◌, ◌*◌, ◌/◌, ◌^◌, ◌<◌, ◌≤◌, ◌==◌, List, [], length, map, slice_index, slice_index_or, All}
 use Rattle.std.specs.List.{slice_split}
 use Rattle.std.specs.Str.Parse.{IsNumeral, digits_value}
 use Rattle.std.specs.Char.{digit_value}
@@ -10,6 +10,11 @@ use Rattle.scenario.specs.declared.number.Base.TheVariants.{Decimal, Hex}
 abbrev pub radix : Base → ℕ
 radix Decimal = 10
 radix Hex = 16
+
+-- the largest number that is read in a base: one of 64 bits, or of 128
+abbrev pub top : Base → ℕ
+top Decimal = 2 ^ 64 - 1
+top Hex = 2 ^ 128 - 1
 
 -- the digits, two by two
 abbrev pub pairs : List ℕ → List (List ℕ)

@@ -1,14 +1,13 @@
 //! Numbers as a scenario writes them.
 
-ghost use Rattle.std.specs.Prelude.{◌≡◌, ◌+◌, ◌*◌, ◌%◌, ◌<◌, ◌≤◌, ◌==◌, ◌++◌, length, slice_index, map, All, OnOk, IfOk};
+ghost use Rattle.std.specs.Prelude.{◌≡◌, ◌+◌, ◌*◌, ◌%◌, ◌<◌, ◌≤◌, ◌==◌, ◌++◌, length, slice_index, All, OnOk, IfOk};
 ghost use Rattle.std.specs.Option.{SomeIff};
 ghost use Rattle.std.specs.Result.{OkIff};
 ghost use Rattle.std.specs.Str.Parse.{IsNumeral, digits_value};
 ghost use Rattle.std.specs.Char.{digit_value};
-ghost use Rattle.scenario.specs.Numbers.{radix, AreHexDigits, pairs, bytes_of, parts_of, IsPart, AreFour, address_of};
+ghost use Rattle.scenario.specs.Numbers.{radix, top, AreHexDigits, pairs, bytes_of, parts_of, IsPart, AreFour, address_of};
 
 use crate::complaint::{Complaint, NoStatement};
-use std::alloc::{AllocError, Global};
 use std::fmt;
 use std::num::IntErrorKind;
 
@@ -45,17 +44,6 @@ impl fmt::Display for Written {
     }
 }
 
-impl Base {
-    fn radix(self) -> u32
-        ensures { result ≡ radix self }
-    {
-        match self {
-            Base::Decimal => 10,
-            Base::Hex => 16,
-        }
-    }
-}
-
 fn begins_with_plus(bytes: &[u8]) -> bool
     ensures { result ≡ (slice_index bytes.now 0 == 43) }
 {
@@ -64,6 +52,7 @@ fn begins_with_plus(bytes: &[u8]) -> bool
 
 /// The number that a token writes in digits of a base and nothing else, up to the largest that may stand there.
 fn number(token: &str, base: Base, most: u128) -> Result<u128, Complaint<'_>>
+    requires { most ≤ top base }
     ensures { OkIff result (IsNumeral (radix base) token.now × (digits_value (radix base) token.now ≤ most)) (digits_value (radix base) token.now) }
 {
     // A plus, which `from_str_radix` takes, is no digit.
@@ -71,7 +60,12 @@ fn number(token: &str, base: Base, most: u128) -> Result<u128, Complaint<'_>>
         return Err(Complaint::NotANumber(token, base));
     }
     let largest = Written { number: most, base };
-    match u128::from_str_radix(token, base.radix()) {
+    // A number in hex has up to 128 bits, a decimal one 64: a digit past them is told before a character that is none.
+    let number = match base {
+        Base::Decimal => u64::from_str_radix(token, 10).map(u128::from),
+        Base::Hex => u128::from_str_radix(token, 16),
+    };
+    match number {
         Ok(number) if number <= most => Ok(number),
         Ok(_) => Err(Complaint::TooLarge(token, largest)),
         Err(error) if *error.kind() == IntErrorKind::PosOverflow => {
@@ -133,24 +127,24 @@ pub fn push_bytes<'a>(token: &'a str, bytes: &mut Vec<u8>) -> Result<(), NoState
     Ok(())
 }
 
-/// The parts of a token between dots.
-fn parts<'a>(heap: Global, token: &'a str) -> Result<Vec<&'a str>, AllocError>
-    ensures { IfOk result (λ parts. map (λ part. part.now) parts.items ≡ parts_of token.now) }
-{
-    token.split('.').collect(heap)
-}
-
 /// The address that four decimal numbers with dots between them write.
 // Not by `Ipv4Addr`, whose reading refuses the leading zeros that a scenario may have.
-pub fn dotted<'a>(heap: Global, token: &'a str) -> Result<u32, NoStatement<'a>>
+pub fn dotted(token: &str) -> Result<u32, Complaint<'_>>
     ensures { IfOk result (λ address. AreFour (parts_of token.now) × (address ≡ address_of (parts_of token.now))) }
 {
-    let parts = parts(heap, token)?;
-    let [a, b, c, d] = parts.as_slice() else {
-        return Err(Complaint::NotAnAddress(token).into());
+    let mut parts = token.split('.');
+    let four = (
+        parts.next(),
+        parts.next(),
+        parts.next(),
+        parts.next(),
+        parts.next(),
+    );
+    let (Some(a), Some(b), Some(c), Some(d), None) = four else {
+        return Err(Complaint::NotAnAddress(token));
     };
     match (small(a), small(b), small(c), small(d)) {
         (Ok(a), Ok(b), Ok(c), Ok(d)) => Ok(u32::from_be_bytes([a, b, c, d])),
-        _ => Err(Complaint::NotAnAddress(token).into()),
+        _ => Err(Complaint::NotAnAddress(token)),
     }
 }

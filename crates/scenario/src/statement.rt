@@ -74,7 +74,7 @@ impl Statement {
             "plan" => Statement::Plan(plans::plan(words)?),
             "place" => Statement::Place(plans::place(words)?),
             "address" => Statement::Address(device::device(words)?),
-            "trace" => Statement::Trace(dotted(words.heap, words.expect("an address")?)?),
+            "trace" => Statement::Trace(dotted(words.expect("an address")?)?),
             other => Statement::Node(NodeStatement::begun(other, words)?),
         })
     }

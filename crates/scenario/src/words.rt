@@ -5,7 +5,7 @@ ghost use Rattle.std.specs.Prelude.{◌≤◌, IfOk};
 use crate::complaint::{Complaint, NoStatement};
 use crate::number::{decimal, hex, push_bytes, small};
 use report::{Mac, Uuid};
-use std::alloc::{AllocError, Global};
+use std::alloc::Global;
 use std::iter::Peekable;
 use std::str::SplitWhitespace;
 
@@ -13,7 +13,7 @@ use std::str::SplitWhitespace;
 #[derive(Drop)]
 pub(crate) struct Words<'a> {
     pub(crate) heap: Global,
-    tokens: Peekable<SplitWhitespace<'a>>,
+    pub(crate) tokens: Peekable<SplitWhitespace<'a>>,
 }
 
 fn word(token: &str) -> Result<u32, Complaint<'_>> {
@@ -72,10 +72,6 @@ impl<'a> Words<'a> {
         ensures { IfOk result (λ number. number ≤ most) }
     {
         decimal(self.expect(what)?, most)
-    }
-
-    pub(crate) fn tokens(&mut self) -> Result<Vec<&'a str>, AllocError> {
-        self.tokens.by_ref().collect(self.heap)
     }
 
     /// Words of 32 bits.

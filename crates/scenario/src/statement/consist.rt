@@ -1,26 +1,26 @@
 //! One more consist of the described train: `consist`.
 
-use crate::complaint::{Complaint, NoStatement};
+use crate::complaint::Complaint;
 use crate::number::hex;
 use crate::words::{Words, mac};
 use composition::{Consist, Node};
 use directory::Way;
 
-pub fn consist<'a>(words: &mut Words<'a>) -> Result<Consist, NoStatement<'a>> {
+pub fn consist<'a>(words: &mut Words<'a>) -> Result<Consist, Complaint<'a>> {
     let uuid = words.uuid()?;
     let way = match words.expect("forward or turned")? {
         "forward" => Way::Forward,
         "turned" => Way::Turned,
-        other => return Err(Complaint::NotAWay(other).into()),
+        other => return Err(Complaint::NotAWay(other)),
     };
     let mut nodes = [Node { mask: 0, mac: None }; 4];
     let mut count = 0;
-    for (place, token) in words.tokens()?.iter().enumerate() {
-        let Some(free) = nodes.get_mut(place) else {
-            return Err(Complaint::FifthNode(token).into());
+    for (place, token) in (0u8..5).zip(words.tokens.by_ref()) {
+        let Some(free) = nodes.get_mut(usize::from(place)) else {
+            return Err(Complaint::FifthNode(token));
         };
         *free = node(token)?;
-        count = place as u8 + 1;
+        count = place + 1;
     }
     Ok(Consist {
         uuid,

@@ -12,28 +12,36 @@ use plan::{Consist, Place, Train};
 /// `home S` as often as wanted, from the outermost, then `train B` or `consist S`.
 pub fn plan<'a>(words: &mut Words<'a>) -> Result<AnyPlan, NoStatement<'a>> {
     let heap = words.heap;
-    let tokens = words.tokens()?;
     let mut homes = Vec::new(heap);
     let mut lowest = None;
-    for layer in tokens.chunks(2) {
-        match layer {
-            [extra, ..] if lowest.is_some() => return Err(Complaint::Extra(extra).into()),
-            ["train", backbone] => {
-                let backbone = small(backbone)?;
+    // The word of a layer whose number stands next.
+    let mut layer = None;
+    for token in words.tokens.by_ref() {
+        layer = match (layer, token) {
+            _ if lowest.is_some() => return Err(Complaint::Extra(token).into()),
+            (None, "train" | "consist" | "home") => Some(token),
+            (None, _) => return Err(Complaint::NotAPlan(token).into()),
+            (Some("train"), _) => {
+                let backbone = small(token)?;
                 lowest = Some(AnyPlan::Train(Train { backbone }));
+                None
             }
-            ["consist", subnet] => {
-                let subnet = small(subnet)?;
+            (Some("consist"), _) => {
+                let subnet = small(token)?;
                 lowest = Some(AnyPlan::Consist(Consist { subnet }));
+                None
             }
-            ["home", subnet] => homes.push(small(subnet)?)?,
-            ["train"] => return Err(Complaint::Missing("a backbone").into()),
-            ["consist"] | ["home"] => return Err(Complaint::Missing("a subnet").into()),
-            [other, ..] => return Err(Complaint::NotAPlan(other).into()),
-            [] => {}
-        }
+            (Some(_), _) => {
+                homes.push(small(token)?)?;
+                None
+            }
+        };
     }
-    let mut plan = lowest.ok_or(Complaint::Missing("a plan"))?;
+    let mut plan = lowest.ok_or(Complaint::Missing(match layer {
+        Some("train") => "a backbone",
+        Some(_) => "a subnet",
+        None => "a plan",
+    }))?;
     for subnet in homes.iter().rev() {
         plan = AnyPlan::home(heap, *subnet, plan)?;
     }
